@@ -1,0 +1,4 @@
+pub mod Algebra
+pub mod Pieces
+pub mod Targets
+pub mod Counted
