@@ -1,0 +1,9 @@
+pub mod Outcomes
+pub mod Lines
+pub mod Fronts
+pub mod Walks
+pub mod Aheads
+pub mod Returns
+pub mod Puts
+pub mod Rules
+pub mod Rewrites
