@@ -7,3 +7,6 @@ pub mod Returns
 pub mod Puts
 pub mod Rules
 pub mod Rewrites
+pub mod Cuts
+pub mod Rosters
+pub mod Composes

@@ -59,7 +59,7 @@ among : (n : ℕ) (xs : List Target) (t : Target) (ys : List Target) → numbere
 among n [] t ys e = or-parts _ _ e .0
 among n (x ∷ xs) t ys e = among n xs t ys (or-parts _ _ e .1)
 
-new : (xs : List Target) (t : Target) (ys : List Target) → distinct (xs ++ (t ∷ ys)) ≡ true → numbered (t .number) xs ≡ false
+pub new : (xs : List Target) (t : Target) (ys : List Target) → distinct (xs ++ (t ∷ ys)) ≡ true → numbered (t .number) xs ≡ false
 new [] t ys e = refl
 new (x ∷ xs) t ys e =
     let p = and-parts _ _ e in

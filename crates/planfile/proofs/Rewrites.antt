@@ -4,18 +4,18 @@ use mathlib.Core.Bool.{Bool, true, false, cond}
 use mathlib.Core.List.{List, [], _∷_, _++_, append-assoc}
 use Prim.Native.Nat.{ℕ, _+_, _-_, _≤_, _<_}
 use native.Mathlib.Omega.{arith}
-use lib.Dec.{ltb}
+use lib.Dec.{leb, ltb}
 use lib.ListN.{length, take, drop, length-take, length-append, take-append-drop}
 use Rattle.std.specs.Joined.{joined}
 use Rattle.std.specs.declared.result.Result.{Result}
 use Rattle.std.specs.declared.result.Result.the-variants.{Ok, Err}
 use Rattle.std.proofs.shelf.Lists.{take-at, drop-at, drop-drop}
-use Rattle.std.proofs.shelf.Tests.{and-from, and-left, le-leb, lt-leb, ltb-false, cond-true, cond-false}
+use Rattle.std.proofs.shelf.Tests.{and-from, and-left, and-right, and-parts, le-leb, lt-leb, leb-true, ltb-false, cond-true, cond-false}
 use Rattle.planfile.specs.declared.faults.Cause.the-variants.{NoRoom}
 use Rattle.planfile.specs.declared.faults.FileFault.{FileFault}
 use Rattle.planfile.specs.declared.read.Summary.{Summary}
 use Rattle.planfile.specs.Format.{Content, fields-in, verdict}
-use Rattle.planfile.specs.Files.{piece-field, target-field, file-of}
+use Rattle.planfile.specs.Files.{piece-field, target-field, file-of, all-lines, all-targets, distinct}
 use Rattle.planfile.specs.Reading.{counts, counted}
 use Rattle.planfile.specs.Writing.{fits, written, left-after, answer, rewritten, rewrite-answer, Says-same}
 use Rattle.planfile.proofs.Outcomes.{never, same-ok, cond-ok, cond-ok-else}
@@ -113,13 +113,24 @@ by-verdict file sum (Ok c) is e =
 pub accepted : (file : List ℕ) (sum : Summary) → Ok sum ≡ counted (verdict file) → Accepted file sum
 accepted file sum e = by-verdict file sum (verdict file) refl e
 
+-- what does not fit is refused, and leaves the output
+pub record Unfit (out f : List ℕ) : Type 0 where
+  pub answer : Err (record { cause = NoRoom; place = 0 }) ≡ answer out 0 f
+  pub output : out ≡ left-after out 0 f
+
+unfit : (out f : List ℕ) → fits out 0 f ≡ false → Unfit out f
+unfit out f over = record { answer = sym (cond-false (fits out 0 f) _ _ over); output = sym (cond-false (fits out 0 f) _ _ over) }
+
+pub unfit-short : (out f : List ℕ) → length out < length f → Unfit out f
+unfit-short out f less = unfit out f (and-left _ _ (lt-leb (0 + length f) (length out) (omega arith)))
+
+pub unfit-long : (out f : List ℕ) → 65535 < length f → Unfit out f
+unfit-long out f more = unfit out f (and-right _ _ (lt-leb (0 + length f) 65535 (omega arith)))
+
 pub no-room : (file out : List ℕ) (sum : Summary) → Accepted file sum → length out < length file → (Err (record { cause = NoRoom; place = 0 }) ≡ rewrite-answer (verdict file) out) × (out ≡ rewritten (verdict file) out)
 no-room file out sum a less =
-    let f = file-of (a .content .lines) (a .content .targets) in
-    let unfit : fits out 0 f ≡ false = and-left _ _ (lt-leb (0 + length f) (length out) (omega (arith, content-size (a .content), a .size))) in (
-      rw (a .is) (sym (cond-false (fits out 0 f) _ _ unfit)),
-      rw (a .is) (sym (cond-false (fits out 0 f) _ _ unfit)),
-    )
+    let u = unfit-short out (file-of (a .content .lines) (a .content .targets)) (omega (arith, content-size (a .content), a .size)) in
+    (rw (a .is) (u .answer), rw (a .is) (u .output))
 
 -- after the lines of an accepted file there is room for its targets
 pub room-for-targets : (file out : List ℕ) (sum : Summary) (a : Accepted file sum) (items : Content) (at : ℕ) (out₁ : List ℕ) → items ≡ a .content → length file ≤ length out → length out₁ ≡ length out → _≡_ {A = Result ℕ FileFault} (Ok at) (Ok (0 + length (joined piece-field (items .lines)))) → (at + length (joined target-field (items .targets)) ≤ length out₁) × (at + length (joined target-field (items .targets)) ≤ 65535)
@@ -148,16 +159,24 @@ module _ (out p t e : List ℕ) (room : length p + length t + length e ≤ lengt
         is-out₃ ∙ cond-true (fits out₂ at₂ e) _ _ last ∙ pte ∙ sym (cond-true (fits out 0 all) _ _ whole),
       )
 
-by-answer : (file out : List ℕ) (v : Result Content FileFault) → verdict file ≡ v → (r : Result ℕ FileFault) (after : List ℕ) → r ≡ rewrite-answer v out → after ≡ rewritten v out → Says-same v r after
-by-answer file out v is (Err e) after is-r is-after = tt
-by-answer file out (Err f) is (Ok p) after is-r is-after = absurd (never _ _ (sym is-r))
-by-answer file out (Ok c) is (Ok p) after is-r is-after =
+-- a content within the rules, written where it fits, is read again
+pub reads-as : (c : Content) (out : List ℕ) → all-lines (c .lines) ≡ true → all-targets (c .targets) ≡ true → distinct (c .targets) ≡ true → (r : Result ℕ FileFault) (after : List ℕ) → r ≡ answer out 0 (file-of (c .lines) (c .targets)) → after ≡ left-after out 0 (file-of (c .lines) (c .targets)) → Says-same (Ok c) r after
+reads-as c out lines targets apart (Err e) after is-r is-after = tt
+reads-as c out lines targets apart (Ok p) after is-r is-after =
     let f = file-of (c .lines) (c .targets) in
     let g = cond-ok (fits out 0 f) _ _ p (sym is-r) in
     let to : after ≡ written out 0 f = is-after ∙ cond-true (fits out 0 f) _ _ (g .0) in
-    let rules = keeps-rules file c is in
     let front : take p after ≡ f = ap (take p) to ∙ take-at f _ p (omega (arith, same-ok (g .1))) in
-    ap verdict front ∙ reads-back (c .lines) (c .targets) (rules .0) (rules .1) (rules .2) (omega (arith, rules .3, small file c is))
+    let short : 0 + length f ≤ 65535 = leb-true (0 + length f) 65535 (and-parts (leb (0 + length f) (length out)) (leb (0 + length f) 65535) (g .0) .1) in
+    let fair : length f ≤ 65535 = omega (arith, short) in
+    ap verdict front ∙ reads-back (c .lines) (c .targets) lines targets apart fair
+
+by-answer : (file out : List ℕ) (v : Result Content FileFault) → verdict file ≡ v → (r : Result ℕ FileFault) (after : List ℕ) → r ≡ rewrite-answer v out → after ≡ rewritten v out → Says-same v r after
+by-answer file out (Err f) is (Err e) after is-r is-after = tt
+by-answer file out (Err f) is (Ok p) after is-r is-after = absurd (never _ _ (sym is-r))
+by-answer file out (Ok c) is r after is-r is-after =
+    let rules = keeps-rules file c is in
+    reads-as c out (rules .0) (rules .1) (rules .2) r after is-r is-after
 
 -- what was written, read again
 pub says-same : (file out : List ℕ) (r : Result ℕ FileFault) (after : List ℕ) → r ≡ rewrite-answer (verdict file) out → after ≡ rewritten (verdict file) out → Says-same (verdict file) r after

@@ -28,7 +28,7 @@ targets-more : (ts : List Target) (t : Target) → all-targets ts ≡ true → i
 targets-more [] t p q = and-from (is-target t) true q refl
 targets-more (x ∷ ts) t p q = let h = and-parts (is-target x) (all-targets ts) p in and-from (is-target x) _ (h .0) (targets-more ts t (h .1) q)
 
-distinct-more : (ts : List Target) (t : Target) → distinct ts ≡ true → numbered (t .number) ts ≡ false → distinct (ts ++ (t ∷ [])) ≡ true
+pub distinct-more : (ts : List Target) (t : Target) → distinct ts ≡ true → numbered (t .number) ts ≡ false → distinct (ts ++ (t ∷ [])) ≡ true
 distinct-more [] t p q = refl
 distinct-more (x ∷ ts) t p q =
     let h = and-parts (not (numbered (x .number) ts)) (distinct ts) p in

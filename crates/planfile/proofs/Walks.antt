@@ -88,7 +88,7 @@ numbered-more n [] t = or-false (eqb (t .number) n)
 numbered-more n (s ∷ ts) t = ap (λ b. eqb (s .number) n || b) (numbered-more n ts t) ∙ sym (or-assoc (eqb (s .number) n) (numbered n ts) (eqb (t .number) n))
 
 -- one number more in the table
-noted : (seen : List Bool) (ts : List Target) (t : Target) → t .number < length seen → ((n : ℕ) → n < 10000 → getD seen n false ≡ numbered n ts) → (n : ℕ) → n < 10000 → getD (set seen (t .number) true) n false ≡ numbered n (ts ++ (t ∷ []))
+pub noted : (seen : List Bool) (ts : List Target) (t : Target) → t .number < length seen → ((n : ℕ) → n < 10000 → getD seen n false ≡ numbered n ts) → (n : ℕ) → n < 10000 → getD (set seen (t .number) true) n false ≡ numbered n (ts ++ (t ∷ []))
 noted seen ts t low table n l =
     ⊎-elim
     (λ e. rw e (getD-set-same seen (t .number) true false low) ∙ sym (numbered-more n ts t ∙ or-right (numbered n ts) (eqb (t .number) n) (eq-eqb (t .number) n (sym e))))

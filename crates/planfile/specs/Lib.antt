@@ -3,3 +3,4 @@ pub mod Format
 pub mod Reading
 pub mod Files
 pub mod Writing
+pub mod Text

@@ -7,10 +7,11 @@ use lib.Dec.{leb}
 use lib.ListN.{length, take, drop}
 use Rattle.std.specs.declared.result.Result.{Result}
 use Rattle.std.specs.declared.result.Result.the-variants.{Ok, Err}
+use Rattle.kinds.specs.declared.targets.Target.{Target}
 use Rattle.planfile.specs.declared.faults.FileFault.{FileFault}
-use Rattle.planfile.specs.declared.faults.Cause.the-variants.{NoRoom}
+use Rattle.planfile.specs.declared.faults.Cause.the-variants.{TargetOutside, NumberTwice, NoRoom}
 use Rattle.planfile.specs.Format.{Content, verdict}
-use Rattle.planfile.specs.Files.{file-of}
+use Rattle.planfile.specs.Files.{file-of, all-targets, distinct}
 
 -- Whether a field fits the output, and a file, at a position.
 abbrev pub fits : List ℕ → ℕ → List ℕ → Bool
@@ -35,6 +36,19 @@ rewritten (Err e) out = out
 abbrev pub rewrite-answer : Result Content FileFault → List ℕ → Result ℕ FileFault
 rewrite-answer (Ok c) out = answer out 0 (file-of (c .lines) (c .targets))
 rewrite-answer (Err e) out = Err e
+
+abbrev pub content-of : List (List ℕ) → List Target → Content
+content-of lines targets = record { lines = lines; targets = targets }
+
+-- A file written of lines and targets: all targets have to be within their limits, and no number may come twice.
+abbrev pub write-answer : List (List ℕ) → List Target → List ℕ → Result ℕ FileFault
+write-answer lines targets out =
+    cond (all-targets targets)
+    (cond (distinct targets) (answer out 0 (file-of lines targets)) (Err (record { cause = NumberTwice; place = 2 })))
+    (Err (record { cause = TargetOutside; place = 2 }))
+
+abbrev pub write-output : List (List ℕ) → List Target → List ℕ → List ℕ
+write-output lines targets out = cond (all-targets targets) (cond (distinct targets) (left-after out 0 (file-of lines targets)) out) out
 
 -- What was written is accepted and says the same.
 abbrev pub Says-same : Result Content FileFault → Result ℕ FileFault → List ℕ → Type 0

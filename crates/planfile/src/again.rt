@@ -13,10 +13,10 @@ use super::FieldsIterator;
 use super::FileFault;
 use super::Item;
 use super::check;
+use super::put::NO_ROOM;
 use super::put_end;
 use super::put_piece;
 use super::put_target;
-use super::write::NO_ROOM;
 
 /// Writes what an accepted file says to the start of the output, and gives its length.
 pub fn rewrite(file: &[u8], out: &mut [u8]) -> Result<u32, FileFault>

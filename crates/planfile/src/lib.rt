@@ -8,12 +8,14 @@
 // Where a file is refused, the first bad field counts, and in it the lowest number (see `Cause`).
 // What is written has its lines first, then its targets, then the end.
 mod again;
+mod compose;
 mod faults;
 mod fields;
+mod put;
 mod read;
-mod write;
 
 pub use again::rewrite;
+pub use compose::write;
 pub use faults::Cause;
 pub use faults::CauseDebug;
 pub use faults::CausePartialEq;
@@ -23,13 +25,16 @@ pub use faults::FileFaultPartialEq;
 pub use fields::Fields;
 pub use fields::FieldsIterator;
 pub use fields::Item;
+pub use put::put_end;
+pub use put::put_piece;
+pub use put::put_target;
 pub use read::Summary;
 pub use read::SummaryDebug;
 pub use read::SummaryPartialEq;
 pub use read::check;
-pub use write::put_end;
-pub use write::put_piece;
-pub use write::put_target;
 
 /// The greatest number of bytes that a file may have.
 pub const MOST_BYTES: usize = 65535;
+
+#[cfg(test)]
+mod tests;

@@ -1,7 +1,7 @@
 use mathlib.Core.Path.{ap, _∙_}
 use Rattle.planfile.specs.Files.{field-of}
 use Rattle.planfile.specs.Writing.{answer, left-after}
-use Rattle.planfile.proofs.write.put_end.Needs as need
+use Rattle.planfile.proofs.put.put_end.Needs as need
 
 pub returns : need.returns
 returns c =
