@@ -12,3 +12,14 @@ pub(crate) fn read(rt: &LibcRuntime, name: &str) -> io::Result<Option<Vec<u8>>> 
         }
     }
 }
+
+// Whether the file could be written; if not, a line says why.
+pub(crate) fn save(rt: &LibcRuntime, name: &str, bytes: &[u8]) -> io::Result<bool> {
+    match fs::write(rt, name, bytes) {
+        Ok(()) => Ok(true),
+        Err(e) => {
+            println!(rt, "The file {name} cannot be written: {e}.")?;
+            Ok(false)
+        }
+    }
+}

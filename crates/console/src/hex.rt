@@ -7,7 +7,7 @@ pub(crate) fn print_file(rt: &LibcRuntime, name: &str) -> io::Result<()> {
         return Ok(());
     };
     let size = bytes.len();
-    println!(rt, "The file {name} has {size} bytes.")?;
+    println!(rt, "The bytes of {name}, {size} in all:")?;
     let mut offset = 0usize;
     for row in bytes.chunks(16) {
         print_row(rt, offset, row)?;

@@ -1,10 +1,14 @@
 // The console: commands from standard input, one to a line.
 //
 // For each it prints the line and then, in plain words, what it did. A refusal or a slip is told in the same way, and
-// the script goes on. The run ends early only where standard input or output fails.
+// the script goes on. The run ends early only where standard input or output fails, or memory.
 mod command;
 mod files;
 mod hex;
+mod make;
+mod roster;
+mod show;
+mod words;
 
 use command::Command;
 use command::Misuse;
@@ -34,7 +38,10 @@ fn answer(rt: &LibcRuntime, line: &str) -> io::Result<()> {
                 "There is no command {word}. The command help lists all commands."
             )
         }
-        Err(Misuse::Words(usage)) => println!(rt, "Nothing done. The command is: {usage}"),
+        Err(Misuse::Words(verb)) => {
+            let usage = verb.usage();
+            println!(rt, "Nothing was done. The command is: {usage}")
+        }
     }
 }
 
@@ -42,13 +49,25 @@ fn run(rt: &LibcRuntime, command: Command<'_>) -> io::Result<()> {
     match command {
         Command::Nothing => Ok(()),
         Command::Help => help(rt),
-        Command::Hex(name) => hex::print_file(rt, name),
+        Command::Check(file) => check(rt, file),
+        Command::Show(file) => show::print_file(rt, file),
+        Command::Labels(file) => check(rt, file),
+        Command::Make { text, targets, out } => make::make(rt, text, targets, out),
+        Command::Rewrite { file, out } => make::rewrite(rt, file, out),
+        Command::Hex(file) => hex::print_file(rt, file),
     }
 }
 
 fn help(rt: &LibcRuntime) -> io::Result<()> {
-    for usage in command::USAGES {
-        println!(rt, "  {usage}")?;
+    for verb in command::VERBS {
+        let usage = verb.usage();
+        let purpose = verb.purpose();
+        println!(rt, "  {usage:<22} {purpose}")?;
     }
+    Ok(())
+}
+
+fn check(rt: &LibcRuntime, name: &str) -> io::Result<()> {
+    let _ = show::accept(rt, name)?;
     Ok(())
 }

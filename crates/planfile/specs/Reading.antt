@@ -20,7 +20,8 @@ use Rattle.std.specs.declared.option.Option.the-variants.{Some, None}
 use Rattle.planfile.specs.declared.fields.Fields.{Fields}
 use Rattle.planfile.specs.declared.fields.Item.{Item}
 use Rattle.planfile.specs.declared.fields.Item.the-variants.{Piece as Line, Target as Goal}
-use Rattle.planfile.specs.Format.{Content, nothing, Meaning, piece, target, end, Front, _then_, front}
+use Rattle.kinds.specs.declared.targets.Target.{Target}
+use Rattle.planfile.specs.Format.{Content, Meaning, piece, target, end, Front, _then_, front}
 
 -- How much a file holds, by the verdict on it.
 abbrev pub text-bytes : List (List ℕ) → ℕ
@@ -55,26 +56,42 @@ ending size sum count place rest =
     (cond (eqb (length rest) 0) (Ok sum) (Err (record { cause = TrailingBytes; place = size - length rest })))
     (Err (record { cause = WrongCount; place = place }))
 
--- What the fields at the front of some bytes say, up to an end field or to what is no field, in at most `most` fields.
-abbrev pub gathered : (List ℕ → Content) → Result Front Cause → Content
-gathered go (Err cause) = nothing
-gathered go (Ok (piece line then rest)) = record { lines = line ∷ go rest .lines; targets = go rest .targets }
-gathered go (Ok (target t then rest)) = record { lines = go rest .lines; targets = t ∷ go rest .targets }
-gathered go (Ok (end count then rest)) = nothing
+-- The pieces and targets at the front of some bytes, up to an end field or to what is no field, in at most `most` fields.
+abbrev pub gathered : (List ℕ → List Meaning) → Result Front Cause → List Meaning
+gathered go (Err cause) = []
+gathered go (Ok (piece line then rest)) = piece line ∷ go rest
+gathered go (Ok (target t then rest)) = target t ∷ go rest
+gathered go (Ok (end count then rest)) = []
 
-abbrev pub ahead-by : ℕ → List ℕ → Content
-ahead-by zero bytes = nothing
+abbrev pub ahead-by : ℕ → List ℕ → List Meaning
+ahead-by zero bytes = []
 ahead-by (suc most) bytes = gathered (ahead-by most) (front bytes)
 
-abbrev pub ahead : List ℕ → Content
+abbrev pub ahead : List ℕ → List Meaning
 ahead bytes = ahead-by (length bytes) bytes
 
--- What the items to come say.
-abbrev pub coming : Fields → Content
+-- The items that are to come.
+abbrev pub coming : Fields → List Meaning
 coming fields = ahead (now (fields .left))
 
--- What `next` gives: the first line or target of what was to come, and the others are to come then.
-abbrev pub Given-next : Content → Option Item → Content → Type 0
-Given-next all None after = (all ≡ nothing) × (after ≡ nothing)
-Given-next all (Some (Line line)) after = all ≡ record { lines = now line ∷ after .lines; targets = after .targets }
-Given-next all (Some (Goal t)) after = all ≡ record { lines = after .lines; targets = t ∷ after .targets }
+-- The lines and the targets among some items, each in their order.
+abbrev pub lines-in : List Meaning → List (List ℕ)
+lines-in [] = []
+lines-in (piece line ∷ more) = line ∷ lines-in more
+lines-in (target t ∷ more) = lines-in more
+lines-in (end count ∷ more) = lines-in more
+
+abbrev pub targets-in : List Meaning → List Target
+targets-in [] = []
+targets-in (piece line ∷ more) = targets-in more
+targets-in (target t ∷ more) = t ∷ targets-in more
+targets-in (end count ∷ more) = targets-in more
+
+abbrev pub content-in : List Meaning → Content
+content-in items = record { lines = lines-in items; targets = targets-in items }
+
+-- What `next` gives: the first of what was to come, and the others are to come then; or nothing is to come.
+abbrev pub Given-next : List Meaning → Option Item → List Meaning → Type 0
+Given-next all None after = (all ≡ []) × (after ≡ [])
+Given-next all (Some (Line line)) after = all ≡ piece (now line) ∷ after
+Given-next all (Some (Goal t)) after = all ≡ target t ∷ after

@@ -6,7 +6,7 @@ ghost use Rattle.std.specs.Joined.{joined};
 ghost use Rattle.std.specs.declared.result.Result.the-variants.{Ok};
 ghost use Rattle.planfile.specs.Format.{verdict};
 ghost use Rattle.planfile.specs.Files.{piece-field, target-field};
-ghost use Rattle.planfile.specs.Reading.{coming};
+ghost use Rattle.planfile.specs.Reading.{coming, lines-in, targets-in};
 ghost use Rattle.planfile.specs.Writing.{written, rewritten, rewrite-answer, Says-same};
 use super::Fields;
 use super::FieldsIterator;
@@ -36,9 +36,9 @@ pub fn rewrite(file: &[u8], out: &mut [u8]) -> Result<u32, FileFault>
 
 /// Appends the lines that are to come, for which there is room.
 fn put_pieces(items: Fields<'_>, out: &mut [u8], mut at: u32) -> Result<u32, FileFault>
-    requires { ⌜ at + length (joined piece-field (coming items .lines)) ≤ length (now out) ⌝ ∗ ⌜ at + length (joined piece-field (coming items .lines)) ≤ 65535 ⌝ }
-    ensures answer { λ r. ⌜ r ≡ Ok (at + length (joined piece-field (coming (items .entry) .lines))) ⌝ }
-    ensures output { λ _. ⌜ now (out .exit) ≡ written (now (out .entry)) at (joined piece-field (coming (items .entry) .lines)) ⌝ }
+    requires { ⌜ at + length (joined piece-field (lines-in (coming items))) ≤ length (now out) ⌝ ∗ ⌜ at + length (joined piece-field (lines-in (coming items))) ≤ 65535 ⌝ }
+    ensures answer { λ r. ⌜ r ≡ Ok (at + length (joined piece-field (lines-in (coming (items .entry))))) ⌝ }
+    ensures output { λ _. ⌜ now (out .exit) ≡ written (now (out .entry)) at (joined piece-field (lines-in (coming (items .entry)))) ⌝ }
 {
     for item in items {
         if let Item::Piece(line) = item {
@@ -50,9 +50,9 @@ fn put_pieces(items: Fields<'_>, out: &mut [u8], mut at: u32) -> Result<u32, Fil
 
 /// Appends the targets that are to come, for which there is room.
 fn put_targets(items: Fields<'_>, out: &mut [u8], mut at: u32) -> Result<u32, FileFault>
-    requires { ⌜ at + length (joined target-field (coming items .targets)) ≤ length (now out) ⌝ ∗ ⌜ at + length (joined target-field (coming items .targets)) ≤ 65535 ⌝ }
-    ensures answer { λ r. ⌜ r ≡ Ok (at + length (joined target-field (coming (items .entry) .targets))) ⌝ }
-    ensures output { λ _. ⌜ now (out .exit) ≡ written (now (out .entry)) at (joined target-field (coming (items .entry) .targets)) ⌝ }
+    requires { ⌜ at + length (joined target-field (targets-in (coming items))) ≤ length (now out) ⌝ ∗ ⌜ at + length (joined target-field (targets-in (coming items))) ≤ 65535 ⌝ }
+    ensures answer { λ r. ⌜ r ≡ Ok (at + length (joined target-field (targets-in (coming (items .entry))))) ⌝ }
+    ensures output { λ _. ⌜ now (out .exit) ≡ written (now (out .entry)) at (joined target-field (targets-in (coming (items .entry)))) ⌝ }
 {
     for item in items {
         if let Item::Target(target) = item {

@@ -1,8 +1,9 @@
 // The lines and targets of an accepted file, one after another.
 ghost use mathlib.Core.Path.{_≡_};
 ghost use Rattle.std.specs.declared.result.Result.the-variants.{Ok};
-ghost use Rattle.planfile.specs.Format.{Content, fields-in, verdict};
-ghost use Rattle.planfile.specs.Reading.{coming, Given-next};
+ghost use lib.ListN.{length};
+ghost use Rattle.planfile.specs.Format.{Content, verdict};
+ghost use Rattle.planfile.specs.Reading.{ahead, coming, content-in, Given-next};
 use super::read;
 use super::read::Field;
 use kinds::Target;
@@ -21,9 +22,10 @@ pub struct Fields<'a> {
 }
 
 impl<'a> Fields<'a> {
-    /// The items of a file: of an accepted one, just those that the verdict has.
+    /// The items of a file, up to an end field or to what is no field: of an accepted file, just what the verdict has.
     pub fn of(file: &'a [u8]) -> Fields<'a>
-        ensures { λ r. ⌜ ((c : Content) → verdict (now (file .entry)) ≡ Ok c → coming r ≡ c) ⌝ }
+        ensures items { λ r. ⌜ coming r ≡ ahead (now (file .entry)) ⌝ }
+        ensures accepted { λ r. ⌜ ((c : Content) → verdict (now (file .entry)) ≡ Ok c → content-in (coming r) ≡ c) ⌝ }
     {
         Fields { left: file }
     }
@@ -36,7 +38,7 @@ pub impl<'a> Iterator for Fields<'a> as FieldsIterator {
 
     ghost ends = { λ _. Unit {0} };
 
-    ghost left = { λ s. fields-in (coming s) };
+    ghost left = { λ s. length (coming s) };
 
     fn next(&mut self) -> Option<Item<'a>> {
         let Ok(step) = read::first_field(self.left) else {

@@ -6,7 +6,7 @@ use native.Mathlib.Omega.{arith}
 use lib.ListN.{length}
 use Rattle.std.specs.Joined.{joined}
 use Rattle.planfile.specs.Files.{piece-field, target-field, end-field}
-use Rattle.planfile.specs.Reading.{coming}
+use Rattle.planfile.specs.Reading.{coming, content-in}
 use Rattle.planfile.specs.Writing.{left-after, answer, rewritten, rewrite-answer}
 use Rattle.planfile.proofs.Rewrites.{accepted, no-room, room-for-targets, three-put, says-same}
 use Rattle.planfile.proofs.again.rewrite.Needs as need
@@ -21,13 +21,13 @@ returns-then-out-file c =
 pub put-pieces-requires : need.put-pieces-requires
 put-pieces-requires c κs =
     let a = accepted (c .args .file .now) (c .in-Continue-sum .sum) (c .in-Continue-sum .ensures tt .verdict) in
-    let lines = ap (λ d. length (joined piece-field (d .lines))) (c .of-items .ensures (a .content) (a .is)) in
+    let lines = ap (λ d. length (joined piece-field (d .lines))) (c .of-items .ensures .accepted (a .content) (a .is)) in
     (omega (arith, a .size, c .if-out-file .left), omega (arith, a .size, a .short))
 
 pub put-targets-requires : need.put-targets-requires
 put-targets-requires c κs =
     let a = accepted (c .args .file .now) (c .in-Continue-sum .sum) (c .in-Continue-sum .ensures tt .verdict) in
-    room-for-targets (c .args .file .now) (c .args .out .now) _ a (coming (c .of-items .result)) (c .in-Continue-at .at) _ (c .of-items .ensures (a .content) (a .is)) (c .if-out-file .left) (c .put-pieces .kept .out) (c .in-Continue-at .ensures tt .answer)
+    room-for-targets (c .args .file .now) (c .args .out .now) _ a (content-in (coming (c .of-items .result))) (c .in-Continue-at .at) _ (c .of-items .ensures .accepted (a .content) (a .is)) (c .if-out-file .left) (c .put-pieces .kept .out) (c .in-Continue-at .ensures tt .answer)
 
 pub add-sum : need.add-sum
 add-sum c =
@@ -45,8 +45,8 @@ pub returns : need.returns
 returns c =
     let out = c .args .out .now in
     let a = accepted (c .args .file .now) (c .in-Continue-sum .sum) (c .in-Continue-sum .ensures tt .verdict) in
-    let items = coming (c .of-items .result) in
-    let is = c .of-items .ensures (a .content) (a .is) in
+    let items = content-in (coming (c .of-items .result)) in
+    let is = c .of-items .ensures .accepted (a .content) (a .is) in
     let lines = ap (λ d. length (joined piece-field (d .lines))) is in
     let targets = ap (λ d. length (joined target-field (d .targets))) is in
     let p = joined piece-field (items .lines) in
