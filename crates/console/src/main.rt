@@ -5,6 +5,7 @@
 mod command;
 mod files;
 mod hex;
+mod label;
 mod make;
 mod roster;
 mod show;
@@ -51,7 +52,7 @@ fn run(rt: &LibcRuntime, command: Command<'_>) -> io::Result<()> {
         Command::Help => help(rt),
         Command::Check(file) => check(rt, file),
         Command::Show(file) => show::print_file(rt, file),
-        Command::Labels(file) => check(rt, file),
+        Command::Labels(file) => label::print_file(rt, file),
         Command::Make { text, targets, out } => make::make(rt, text, targets, out),
         Command::Rewrite { file, out } => make::rewrite(rt, file, out),
         Command::Hex(file) => hex::print_file(rt, file),

@@ -1,4 +1,5 @@
 // What the console says, in words.
+use labels::LabelFault;
 use planfile::Cause;
 use planfile::FileFault;
 use std::fmt;
@@ -44,14 +45,38 @@ pub impl fmt::Display for Count as CountDisplay {
     }
 }
 
-// A refusal, with its number, layer and place, and what it means.
+// What a plan file was refused for.
 pub(crate) fn refuse(rt: &LibcRuntime, what: &str, fault: FileFault) -> io::Result<()> {
-    let number = fault.number();
-    let place = fault.place;
-    let meaning = meaning(fault.cause);
+    tell(
+        rt,
+        what,
+        fault.number(),
+        "file",
+        fault.place,
+        meaning(fault.cause),
+    )
+}
+
+// What labels were refused for.
+pub(crate) fn refuse_labels(rt: &LibcRuntime, what: &str, fault: LabelFault) -> io::Result<()> {
+    let meaning = match fault {
+        LabelFault::OutputTooShort => "the output is too short",
+    };
+    tell(rt, what, fault.number(), "agenda", 0, meaning)
+}
+
+// A refusal, with its number, layer and place, and what it means.
+fn tell(
+    rt: &LibcRuntime,
+    what: &str,
+    number: u8,
+    layer: &str,
+    place: u32,
+    meaning: &str,
+) -> io::Result<()> {
     println!(
         rt,
-        "{what} is refused with number {number}, layer file, place {place}: {meaning}."
+        "{what} is refused with number {number}, layer {layer}, place {place}: {meaning}."
     )
 }
 

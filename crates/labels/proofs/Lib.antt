@@ -1,0 +1,5 @@
+pub mod Places
+pub mod Counts
+pub mod Orders
+pub mod Only
+pub mod Sorts
