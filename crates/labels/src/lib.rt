@@ -11,7 +11,8 @@ ghost use Rattle.labels.specs.Faults.{number-of};
 ghost use Rattle.labels.specs.Labels.{label, placed, Labelled, Written};
 use kinds::Target;
 
-/// A target with its position in the list, counted from 0. Labels compare by range, by position where ranges are equal, and last by number.
+/// A target with its position in the list, counted from 0. Labels compare by range, by position where ranges are equal,
+/// and last by number.
 #[derive(Clone, Copy, PartialEq, Eq, PartialOrd, Ord, Debug)]
 pub struct Label {
     pub range: u32,
