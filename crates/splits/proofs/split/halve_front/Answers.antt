@@ -1,0 +1,31 @@
+use mathlib.Core.Path.{_≡_, refl, sym, ap, _∙_, subst}
+use Prim.Native.Nat.{suc, _+_, _<_, _≤_}
+use native.Mathlib.Omega.{arith}
+use Rattle.model.specs.Tree.{count-run, front, back}
+use Rattle.model.proofs.Popping.{tree-of-formed}
+use Rattle.cells.specs.Cells.{nodes, tree}
+use Rattle.cells.specs.Fingers.{listed}
+use Rattle.cells.proofs.Frames.{keep-nodes}
+use Rattle.cells.specs.Fingers.{listed-some}
+use Rattle.cells.proofs.Fours.{some-length}
+use Rattle.std.proofs.shelf.Lists.{length-map}
+use Rattle.splits.proofs.Halving.{two-built, near-ready, middle-ready, far-ready, level-count, trim-kept}
+use Rattle.splits.proofs.split.halve_front.Needs as need
+
+pub trim-right-requires : need.trim-right-requires
+trim-right-requires g c κs =
+    let spent = c .tree-some-left .ensures .grown .spent in
+    record {
+      room = omega (arith, c .pre .room);
+      sound = c .tree-some-left .ensures .grown .sound;
+      shallow = c .pre .shallow;
+      near = near-ready (g .K·Kind .kind) front (c .tree-some-left .ensures .grown .extends) (c .args .level) (listed-some (c .args .cut .after)) (c .args .middle) (listed (c .args .back)) (c .pre .after) (c .pre .middle) (c .pre .back);
+      middle = middle-ready (g .K·Kind .kind) front (c .tree-some-left .ensures .grown .extends) (c .args .level) (listed-some (c .args .cut .after)) (c .args .middle) (listed (c .args .back)) (c .pre .after) (c .pre .middle) (c .pre .back);
+      far = far-ready (g .K·Kind .kind) front (c .tree-some-left .ensures .grown .extends) (c .args .level) (listed-some (c .args .cut .after)) (c .args .middle) (listed (c .args .back)) (c .pre .after) (c .pre .middle) (c .pre .back);
+      fits = omega (arith, level-count (g .K·Kind .kind) front (c .tree-some-left .ensures .grown .extends) (c .args .level) (listed-some (c .args .cut .after)) (c .args .middle) (listed (c .args .back)) (c .pre .after) (c .pre .middle) (c .pre .back), c .pre .fits);
+    }
+
+pub returns : need.returns
+returns g c =
+    let q = g .K·Kind .kind in
+    two-built (c .args .middle .levels + 2) (c .args .cut .finger) (c .tree-some-left .ensures) (tree-of-formed q back (c .args .level) (nodes (c .args .cells .now) (c .args .level) (listed-some (c .args .cut .before))) (c .pre .before) .0) (trim-kept (g .K·Kind .kind) front (c .tree-some-left .ensures .grown .extends) (c .args .level) (listed-some (c .args .cut .after)) (c .args .middle) (listed (c .args .back)) (c .pre .after) (c .pre .middle) (c .pre .back) (c .trim-right .ensures)) (c .pre .here) (omega arith)

@@ -1,0 +1,112 @@
+// The item at a position.
+ghost use mathlib.Core.Path.{_≡_};
+ghost use Prim.Native.Nat.{ℕ, suc, _+_, _<_, _≤_, _^_};
+ghost use lib.ListN.{length, getD};
+ghost use Rattle.model.specs.Tree.{count-node, count-run, count, items-node, items};
+ghost use Rattle.model.specs.Forms.{Formed-node, Each, Formed};
+ghost use Rattle.cells.specs.Cells.{node, nodes, tree};
+ghost use Rattle.cells.specs.Fingers.{listed};
+ghost use Rattle.splits.specs.Items.{Found-in};
+use cells::cell::Body;
+use cells::cell::Cell;
+use cells::cell::Root;
+use cells::cell::Side;
+use cells::digits;
+use cells::digits::reversed;
+use cells::fingers::Digit;
+use cells::read::fingers_of;
+use cells::read::view;
+use cells::read::weigh;
+use cells::read::weigh_run;
+use cells::read::weigh_tree;
+use cells::view::View;
+use kinds::Kind;
+
+// A finger, and a position among its items.
+#[derive(Clone, Copy)]
+pub struct Found {
+    pub finger: u32,
+    pub offset: u32,
+}
+
+// The finger that has the item at a position, of fingers listed from the left.
+pub fn find_finger<K: Kind>(
+    cells: &[Cell<K::Item, K::Total>],
+    level: u32,
+    digit: Digit,
+    position: u32,
+) -> Found
+    requires formed { ⌜ Each level (nodes (now cells) level (listed digit)) ⌝ }
+    requires within { ⌜ position < count-run (nodes (now cells) level (listed digit)) ⌝ }
+    ensures { λ r. ⌜ Found-in (now (cells .entry)) level (listed digit) position r ⌝ }
+{
+    let finger = digits::finger(digit, 0);
+    let weight = weigh::<K>(cells, level, finger);
+    if position < weight.items {
+        return Found {
+            finger,
+            offset: position,
+        };
+    }
+    match digits::rest(digit) {
+        Some(others) => find_finger::<K>(cells, level, others, position - weight.items),
+        None => unreachable(),
+    }
+}
+
+// The item at a position of a node.
+pub fn node_item<K: Kind>(
+    cells: &[Cell<K::Item, K::Total>],
+    level: u32,
+    at: u32,
+    position: u32,
+) -> K::Item
+    requires formed { ⌜ Formed-node level (node (now cells) level at) ⌝ }
+    requires within { ⌜ position < count-node (node (now cells) level at) ⌝ }
+    ensures { λ r. ⌜ r ≡ getD (items-node (node (now (cells .entry)) level at)) position r ⌝ }
+{
+    if level == 0 {
+        let cell = cells[at as usize];
+        let body = cell.body;
+        return match body {
+            Body::Item { item } => item,
+            _ => unreachable(),
+        };
+    }
+    let parts = fingers_of::<K>(cells, level - 1, Side::Front, at);
+    let found = find_finger::<K>(cells, level - 1, parts, position);
+    node_item::<K>(cells, level - 1, found.finger, found.offset)
+}
+
+// The item at a position of a tree.
+pub fn item_at<K: Kind>(
+    cells: &[Cell<K::Item, K::Total>],
+    level: u32,
+    root: Root,
+    position: u32,
+) -> K::Item
+    requires shallow { ⌜ level + root .levels < 64 ⌝ }
+    requires formed { ⌜ Formed level (tree (now cells) (root .levels) level (root .at)) ⌝ }
+    requires fits { ⌜ count (tree (now cells) (root .levels) level (root .at)) < 2 ^ 32 ⌝ }
+    requires within { ⌜ position < count (tree (now cells) (root .levels) level (root .at)) ⌝ }
+    ensures { λ r. ⌜ r ≡ getD (items (tree (now (cells .entry)) (root .levels) level (root .at))) position r ⌝ }
+{
+    match view::<K>(cells, level, Side::Front, root) {
+        View::Empty => unreachable(),
+        View::Single { finger } => node_item::<K>(cells, level, finger, position),
+        View::Deep { near, middle, far } => {
+            let first = weigh_run::<K>(cells, level, Side::Front, near);
+            if position < first.items {
+                let found = find_finger::<K>(cells, level, near, position);
+                return node_item::<K>(cells, level, found.finger, found.offset);
+            }
+            let after = position - first.items;
+            let inner = weigh_tree::<K>(cells, level + 1, middle);
+            if after < inner.items {
+                return item_at::<K>(cells, level + 1, middle, after);
+            }
+            let last = find_finger::<K>(cells, level, reversed(far), after - inner.items);
+            node_item::<K>(cells, level, last.finger, last.offset)
+        }
+    }
+}
