@@ -7,3 +7,4 @@ pub mod Split
 pub mod Forms
 pub mod Seek
 pub mod Replace
+pub mod Levels

@@ -1,7 +1,11 @@
 // A pure model of 2-3 finger trees.
+mod levels;
+
+pub use levels::levels_for;
 ghost use Rattle.model.specs.Statements.{Counts-are-lengths, Fewest-items, Few-cells, Push-forms, Push-items, Pop-keeps, Append-keeps, Replaced-keeps};
 ghost use Rattle.model.specs.Statements.{Totals-join, Totals-fair, Push-measures, Pop-measures, Append-measures, Replaced-measures};
 ghost use Rattle.model.specs.Statements.{Seek-finds, Seek-decides, Seek-skips, Seek-lands, Alike-seeks, Split-lands, Split-seeks};
+ghost use Rattle.model.specs.Levels.{Most-is-largest, Levels-within};
 use kinds::Kind;
 
 pub fn counts_are_lengths<I, T>() -> u8
@@ -13,6 +17,8 @@ pub fn counts_are_lengths<I, T>() -> u8
 pub fn few_levels<I, T>() -> u8
     ensures fewest { λ _. ⌜ Fewest-items I T ⌝ }
     ensures cells { λ _. ⌜ Few-cells I T ⌝ }
+    ensures largest { λ _. ⌜ Most-is-largest ⌝ }
+    ensures within { λ _. ⌜ Levels-within I T ⌝ }
 {
     0
 }
@@ -74,3 +80,6 @@ pub fn split_seeks<K: Kind>() -> u8
 {
     0
 }
+
+#[cfg(test)]
+mod tests;
