@@ -2,13 +2,14 @@
 use mathlib.Core.Path.{_≡_, refl, sym, ap, _∙_, subst}
 use mathlib.Core.List.{List, [], _∷_}
 use mathlib.Core.Logic.{_≢_}
-use mathlib.Core.Bool.{Bool, true, false}
+use mathlib.Core.Bool.{Bool, true, false, cond}
 use Prim.Native.Nat.{ℕ, zero, suc, _+_, _-_, _<_, _≤_}
 use native.Mathlib.Omega.{arith}
 use lib.ListN.{length, getD, set, length-set}
 use lib.Seq.{getD-set-same, getD-set-other}
+use Rattle.std.proofs.shelf.Sums.{sumBy-set}
 use Rattle.cells.specs.Cells.{blank, body, link, is-free}
-use Rattle.cells.specs.Chain.{Absent, chain, Linked, Sound, Extends, Grown, Taken}
+use Rattle.cells.specs.Chain.{Absent, chain, Linked, free-cells, Sound, Extends, Grown, Taken}
 use Rattle.cells.specs.declared.cell.Cell.{Cell}
 use Rattle.cells.specs.declared.cell.Body.{Body}
 use Rattle.cells.specs.declared.cell.Body.the-variants.{Free, Item, Two, Three, Single, Deep}
@@ -28,8 +29,7 @@ module _ {I T : Type 0} where
       record { within = linked .0; free = linked .1 .0; apart = rw e (linked .1 .1 .0); rest = rw e (linked .1 .1 .1) }
 
   pub first : (h : List (Cell I T)) (free : FreeList) → 0 < free .count → Sound h free → Head h (free .count) (free .first)
-  unfolding Sound
-  first h free some sound = head h (free .count) (free .first) some sound
+  first h free some sound = head h (free .count) (free .first) some (sound .linked)
 
   -- a write off the chain leaves it
   kept-chain : (h : List (Cell I T)) (n p q : ℕ) (c : Cell I T) → Absent q (chain h n p) → Linked h n p → (chain (set h q c) n p ≡ chain h n p) × Linked (set h q c) n p
@@ -51,12 +51,17 @@ module _ {I T : Type 0} where
         ap (λ (x : Cell I T). x .body) (getD-set-other h q p c blank ne);
   }
 
-  pub taken : (h : List (Cell I T)) (free free′ : FreeList) (c : Cell I T) → 0 < free .count → Sound h free → free′ .first ≡ link h (free .first) → free′ .count ≡ free .count - 1 → Taken h (set h (free .first) c) free free′ (free .first) (c .body)
-  unfolding Sound
-  taken h free free′ c some sound e n =
-      let hd = head h (free .count) (free .first) some sound in
+  -- a free cell that is taken is one free cell less
+  fewer : (h : List (Cell I T)) (q : ℕ) (c : Cell I T) → q < length h → is-free (body h q) ≡ true → is-free (c .body) ≡ false → suc (free-cells (set h q c)) ≡ free-cells h
+  fewer h q c within was is =
+      let e = sumBy-set (λ (x : Cell I T). cond (is-free (x .body)) 1 0) h q c blank within in
+      omega (arith, rw (was, is) at e)
+
+  pub taken : (h : List (Cell I T)) (free free′ : FreeList) (c : Cell I T) → is-free (c .body) ≡ false → 0 < free .count → Sound h free → free′ .first ≡ link h (free .first) → free′ .count ≡ free .count - 1 → Taken h (set h (free .first) c) free free′ (free .first) (c .body)
+  taken h free free′ c used some sound e n =
+      let hd = head h (free .count) (free .first) some (sound .linked) in
       let rest = kept-chain h (free .count - 1) (link h (free .first)) (free .first) c (hd .apart) (hd .rest) in
       record {
-        grown = record { extends = extends-set h (free .first) c (hd .free); sound = rw (e, n) (rest .1); spent = omega arith };
+        grown = record { extends = extends-set h (free .first) c (hd .free); sound = record { linked = rw (e, n) (rest .1); all = omega (arith, fewer h (free .first) c (hd .within) (hd .free) used, sound .all) }; spent = omega arith };
         holds = ap (λ (x : Cell I T). x .body) (getD-set-same h (free .first) c blank (hd .within));
       }
