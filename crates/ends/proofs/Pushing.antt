@@ -2,7 +2,7 @@
 use mathlib.Core.Path.{_≡_, refl, sym, ap, _∙_, subst}
 use mathlib.Core.List.{List, [], _∷_}
 use mathlib.Core.Logic.{_⊎_, inl, inr}
-use Prim.Native.Nat.{ℕ, zero, suc, _+_, _*_, _<_, _≤_, _^_}
+use Prim.Native.Nat.{ℕ, zero, suc, _+_, _-_, _*_, _<_, _≤_, _^_}
 use native.Mathlib.Omega.{arith}
 use lib.ListN.{length, getD}
 use Rattle.std.proofs.shelf.Lists.{length-map}
@@ -42,6 +42,13 @@ module _ {I T Q : Type 0} (q : Algebra I T Q) where
   push-full front x t n a b c d m far = refl
   push-full back x t n a b c d m far = refl
 
+  -- a push leaves no tree empty
+  pub some-levels : (s : Side) (k : ℕ) (x : Node I T) (t : Tree I T) → Formed k t → 1 ≤ levels (push q s x t)
+  some-levels s k x none w = omega arith
+  some-levels s k x (single y) w = omega (arith, levels-deep-at q s (x ∷ []) none (y ∷ []))
+  some-levels s k x (deep t n f m b) w = elim (push-levels q s k x (deep t n f m b) w) [ inl e ↦ omega (arith, e) | inr e ↦ omega (arith, e) ]
+  some-levels s k x torn w = elim w [ ]
+
 module _ {I T : Type 0} {h h′ : List (Cell I T)} {f f′ : FreeList} where
   -- as many levels as the tree has
   pub made-levels : {c k : ℕ} {r : Root} {t : Tree I T} → Made-tree h h′ f f′ c k r t → Formed k t → r .levels ≡ levels t
@@ -55,23 +62,26 @@ four-listed d l = let e : d .count ≡ 4 = omega (arith, d .filled .1) in ap (λ
 
 -- the tree t, and the finger x that is pushed
 module _ {I T Q : Type 0} (q : Algebra I T Q) (s : Side) (h : List (Cell I T)) (k x : ℕ) (root : Root) (v : Formed-node k (node h k x)) (w : Formed k (tree h (root .levels) k (root .at))) where
-  settled : {h′ : List (Cell I T)} {f f′ : FreeList} {c : ℕ} {r : Root} {u : Tree I T} → Made-tree h h′ f f′ c k r u → u ≡ push q s (node h k x) (tree h (root .levels) k (root .at)) → c ≤ 2 * levels u → Made-tree h h′ f f′ (2 * r .levels) k r (push q s (node h k x) (tree h (root .levels) k (root .at)))
+  pub push-some : 1 ≤ levels (push q s (node h k x) (tree h (root .levels) k (root .at)))
+  push-some = some-levels q s k (node h k x) (tree h (root .levels) k (root .at)) w
+
+  settled : {h′ : List (Cell I T)} {f f′ : FreeList} {c : ℕ} {r : Root} {u : Tree I T} → Made-tree h h′ f f′ c k r u → u ≡ push q s (node h k x) (tree h (root .levels) k (root .at)) → c ≤ 2 * levels u - 1 → Made-tree h h′ f f′ (2 * r .levels - 1) k r (push q s (node h k x) (tree h (root .levels) k (root .at)))
   settled {h′} {f} {f′} {c} {r} {u} m e l =
       let z : c ≤ c = omega arith in
       let n = made-levels (made-as c _ m e z) (push-formed q s k _ _ v w) in
       let o = ap levels e in
-      made-as (2 * r .levels) _ m e (omega arith)
+      made-as (2 * r .levels - 1) _ m e (omega arith)
 
-  pub push-empty : {h′ : List (Cell I T)} {f f′ : FreeList} {r : Root} → Made-tree h h′ f f′ 1 k r (single (node h k x)) → tree h (root .levels) k (root .at) ≡ none → Made-tree h h′ f f′ (2 * r .levels) k r (push q s (node h k x) (tree h (root .levels) k (root .at)))
+  pub push-empty : {h′ : List (Cell I T)} {f f′ : FreeList} {r : Root} → Made-tree h h′ f f′ 1 k r (single (node h k x)) → tree h (root .levels) k (root .at) ≡ none → Made-tree h h′ f f′ (2 * r .levels - 1) k r (push q s (node h k x) (tree h (root .levels) k (root .at)))
   push-empty m e = settled m (sym (ap (push q s (node h k x)) e)) (omega arith)
 
-  pub push-single : {h′ : List (Cell I T)} {f f′ : FreeList} {r : Root} (y : ℕ) (ns fs : List ℕ) → Made-tree h h′ f f′ 1 k r (deep-at q s (nodes h k ns) (tree h 0 (suc k) 0) (nodes h k fs)) → ns ≡ x ∷ [] → fs ≡ y ∷ [] → tree h (root .levels) k (root .at) ≡ single (node h k y) → Made-tree h h′ f f′ (2 * r .levels) k r (push q s (node h k x) (tree h (root .levels) k (root .at)))
+  pub push-single : {h′ : List (Cell I T)} {f f′ : FreeList} {r : Root} (y : ℕ) (ns fs : List ℕ) → Made-tree h h′ f f′ 1 k r (deep-at q s (nodes h k ns) (tree h 0 (suc k) 0) (nodes h k fs)) → ns ≡ x ∷ [] → fs ≡ y ∷ [] → tree h (root .levels) k (root .at) ≡ single (node h k y) → Made-tree h h′ f f′ (2 * r .levels - 1) k r (push q s (node h k x) (tree h (root .levels) k (root .at)))
   push-single y ns fs m a b e =
       let n = levels-deep-at q s (nodes h k ns) (tree h 0 (suc k) 0) (nodes h k fs) in
       settled m (rw (a, b, tree-none h 0 (suc k) 0 refl, e)) (omega arith)
 
   module _ {near far : Filled} {m : Root} (seen : Seen-deep h k s root near m far) where
-    pub push-roomy : {h′ : List (Cell I T)} {f f′ : FreeList} {r : Root} (more : List ℕ) → Made-tree h h′ f f′ 1 k r (deep-at q s (nodes h k more) (tree h (m .levels) (suc k) (m .at)) (nodes h k (listed far))) → more ≡ x ∷ listed near → near .count < 4 → Made-tree h h′ f f′ (2 * r .levels) k r (push q s (node h k x) (tree h (root .levels) k (root .at)))
+    pub push-roomy : {h′ : List (Cell I T)} {f f′ : FreeList} {r : Root} (more : List ℕ) → Made-tree h h′ f f′ 1 k r (deep-at q s (nodes h k more) (tree h (m .levels) (suc k) (m .at)) (nodes h k (listed far))) → more ≡ x ∷ listed near → near .count < 4 → Made-tree h h′ f f′ (2 * r .levels - 1) k r (push q s (node h k x) (tree h (root .levels) k (root .at)))
     push-roomy more u e l =
         let n = levels-deep-at q s (nodes h k more) (tree h (m .levels) (suc k) (m .at)) (nodes h k (listed far)) in
         let short : length (nodes h k (listed near)) < 4 = simp length-map (omega (arith, listed-length near)) in
@@ -104,7 +114,14 @@ module _ {I T Q : Type 0} (q : Algebra I T Q) (s : Side) (h : List (Cell I T)) (
         pub carried-count : count-node (node h₁ k′ p) + count (tree h₁ (m .levels) k′ (m .at)) ≤ count (tree h (root .levels) k (root .at))
         carried-count = rw (three-reads, kept-middle) (omega (arith, count-three-at q s (node h k b) (node h k c) (node h k d), fingers-count))
 
-        module _ {h₂ : List (Cell I T)} {f₂ : FreeList} {r : Root} (below : Made-tree h₁ h₂ f₁ f₂ (2 * r .levels) k′ r (push q s (node h₁ k′ p) (tree h₁ (m .levels) k′ (m .at)))) (two : List ℕ) (pair : two ≡ x ∷ a ∷ []) where
+        full-is : push q s (node h k x) (tree h (root .levels) k (root .at)) ≡ deep-at q s (nodes h k (x ∷ a ∷ [])) (push q s (three-at q s (node h k b) (node h k c) (node h k d)) (tree h (m .levels) (suc k) (m .at))) (nodes h k (listed far))
+        full-is = ap (push q s (node h k x)) (seen .is ∙ ap (λ ps. deep-of s (seen .total) (seen .items) (nodes h k ps) (tree h (m .levels) (suc k) (m .at)) (nodes h k (listed far))) full) ∙ push-full q s (node h k x) (seen .total) (seen .items) (node h k a) (node h k b) (node h k c) (node h k d) _ _
+
+        -- the push goes one level further
+        pub full-levels : levels (push q s (node h k x) (tree h (root .levels) k (root .at))) ≡ suc (levels (push q s (node h₁ k′ p) (tree h₁ (m .levels) k′ (m .at))))
+        full-levels = ap levels full-is ∙ levels-deep-at q s (nodes h k (x ∷ a ∷ [])) (push q s (three-at q s (node h k b) (node h k c) (node h k d)) (tree h (m .levels) (suc k) (m .at))) (nodes h k (listed far)) ∙ ap suc (sym (rw (three-reads, kept-middle)))
+
+        module _ {h₂ : List (Cell I T)} {f₂ : FreeList} {r : Root} (below : Made-tree h₁ h₂ f₁ f₂ (2 * r .levels - 1) k′ r (push q s (node h₁ k′ p) (tree h₁ (m .levels) k′ (m .at)))) (two : List ℕ) (pair : two ≡ x ∷ a ∷ []) where
           below-reads : tree h₂ (r .levels) (suc k) (r .at) ≡ push q s (three-at q s (node h k b) (node h k c) (node h k d)) (tree h (m .levels) (suc k) (m .at))
           below-reads = subst (λ j. tree h₂ (r .levels) j (r .at) ≡ push q s (three-at q s (node h k b) (node h k c) (node h k d)) (tree h (m .levels) (suc k) (m .at))) (sym i) (below .reads ∙ rw (three-reads, kept-middle))
 
@@ -126,6 +143,14 @@ module _ {I T Q : Type 0} (q : Algebra I T Q) (s : Side) (h : List (Cell I T)) (
           pub below-ready : Formed (suc k) (tree h₂ (r .levels) (suc k) (r .at))
           below-ready = subst (Formed (suc k)) (sym below-reads) (push-formed q s (suc k) _ _ three-formed (seen .middle-formed))
 
+          pub below-some : 1 ≤ r .levels
+          below-some =
+              let e = sym (levels-read h₂ (r .levels) (suc k) (r .at) below-ready) ∙ ap levels below-reads in
+              omega (arith, e, some-levels q s (suc k) (three-at q s (node h k b) (node h k c) (node h k d)) (tree h (m .levels) (suc k) (m .at)) (seen .middle-formed))
+
+          pub below-exact : r .levels ≡ levels (push q s (node h₁ k′ p) (tree h₁ (m .levels) k′ (m .at)))
+          below-exact = sym (levels-read h₂ (r .levels) (suc k) (r .at) below-ready) ∙ ap levels below-reads ∙ ap levels (sym (rw (three-reads, kept-middle)))
+
           pub below-levels : r .levels ≤ root .levels
           below-levels =
               let e = sym (levels-read h₂ (r .levels) (suc k) (r .at) below-ready) ∙ ap levels below-reads in
@@ -136,12 +161,12 @@ module _ {I T Q : Type 0} (q : Algebra I T Q) (s : Side) (h : List (Cell I T)) (
           pub level-count : count-run (nodes h₂ k two) + (count (tree h₂ (r .levels) (suc k) (r .at)) + count-run (nodes h₂ k (listed far))) ≡ count-node (node h k x) + count (tree h (root .levels) k (root .at))
           level-count = rw (near-kept, far-kept, below-reads) (omega (arith, push-count q s (suc k) (three-at q s (node h k b) (node h k c) (node h k d)) (tree h (m .levels) (suc k) (m .at)) (seen .middle-formed), count-three-at q s (node h k b) (node h k c) (node h k d), fingers-count))
 
-          pub push-fuller : {h₃ : List (Cell I T)} {f₃ : FreeList} {o : Root} → Made-tree h₂ h₃ f₂ f₃ 1 k o (deep-at q s (nodes h₂ k two) (tree h₂ (r .levels) (suc k) (r .at)) (nodes h₂ k (listed far))) → Made-tree h h₃ f f₃ (2 * o .levels) k o (push q s (node h k x) (tree h (root .levels) k (root .at)))
+          pub push-fuller : {h₃ : List (Cell I T)} {f₃ : FreeList} {o : Root} → Made-tree h₂ h₃ f₂ f₃ 1 k o (deep-at q s (nodes h₂ k two) (tree h₂ (r .levels) (suc k) (r .at)) (nodes h₂ k (listed far))) → Made-tree h h₃ f f₃ (2 * o .levels - 1) k o (push q s (node h k x) (tree h (root .levels) k (root .at)))
           push-fuller {h₃} {f₃} {o} u =
               let n = levels-deep-at q s (nodes h₂ k two) (tree h₂ (r .levels) (suc k) (r .at)) (nodes h₂ k (listed far)) in
               let y = levels-read h₂ (r .levels) (suc k) (r .at) below-ready in
-              let all : Made-tree h h₃ f f₃ (1 + (2 * r .levels + 1)) k o (deep-at q s (nodes h₂ k two) (tree h₂ (r .levels) (suc k) (r .at)) (nodes h₂ k (listed far))) =
-              record { grown = grown-more _ (three .grown) (grown-more (2 * r .levels + 1) (below .grown) (u .grown) (omega arith)) (omega arith); reads = u .reads } in
-              settled all
-              (rw (near-kept, far-kept, below-reads) (sym (ap (push q s (node h k x)) (seen .is ∙ ap (λ ps. deep-of s (seen .total) (seen .items) (nodes h k ps) (tree h (m .levels) (suc k) (m .at)) (nodes h k (listed far))) full) ∙ push-full q s (node h k x) (seen .total) (seen .items) (node h k a) (node h k b) (node h k c) (node h k d) _ _)))
-              (omega arith)
+              let one = below-some in
+              let all : Made-tree h h₃ f f₃ (2 * r .levels + 1) k o (deep-at q s (nodes h₂ k two) (tree h₂ (r .levels) (suc k) (r .at)) (nodes h₂ k (listed far))) =
+              record { grown = grown-more _ (three .grown) (grown-more (2 * r .levels) (below .grown) (u .grown) (omega arith)) (omega arith); reads = u .reads } in
+              let some = below-some in
+              settled all (rw (near-kept, far-kept, below-reads) (sym full-is)) (omega arith)

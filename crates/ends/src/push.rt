@@ -1,7 +1,8 @@
 // One finger more at an end.
 ghost use mathlib.Core.Path.{_≡_};
-ghost use Prim.Native.Nat.{ℕ, suc, _+_, _*_, _<_, _≤_, _^_};
+ghost use Prim.Native.Nat.{ℕ, suc, _+_, _-_, _*_, _<_, _≤_, _^_};
 ghost use Rattle.model.specs.Tree.{count-node, count};
+ghost use Rattle.model.specs.Tree.{levels as depth};
 ghost use Rattle.model.specs.Ends.{push as pushed};
 ghost use Rattle.model.specs.Forms.{Formed-node, Formed};
 ghost use Rattle.cells.specs.Cells.{end, node, tree};
@@ -27,13 +28,13 @@ pub fn push<K: Kind>(
     root: Root,
     finger: u32,
 ) -> Root
-    requires room { ⌜ 2 * (root .levels + 1) ≤ now free .count ⌝ }
+    requires room { ⌜ 2 * depth (pushed (K·Kind .kind) (end side) (node (now cells) level finger) (tree (now cells) (root .levels) level (root .at))) ≤ now free .count + 1 ⌝ }
     requires sound { ⌜ Sound (now cells) (now free) ⌝ }
     requires shallow { ⌜ level + root .levels < 64 ⌝ }
     requires formed { ⌜ Formed level (tree (now cells) (root .levels) level (root .at)) ⌝ }
     requires finger { ⌜ Formed-node level (node (now cells) level finger) ⌝ }
     requires fits { ⌜ count-node (node (now cells) level finger) + count (tree (now cells) (root .levels) level (root .at)) < 2 ^ 32 ⌝ }
-    ensures { λ r. ⌜ Made-tree (now (cells .entry)) (now (cells .exit)) (now (free .entry)) (now (free .exit)) (2 * r .levels) level r (pushed (K·Kind .kind) (end side) (node (now (cells .entry)) level finger) (tree (now (cells .entry)) (root .levels) level (root .at))) ⌝ }
+    ensures { λ r. ⌜ Made-tree (now (cells .entry)) (now (cells .exit)) (now (free .entry)) (now (free .exit)) (2 * r .levels - 1) level r (pushed (K·Kind .kind) (end side) (node (now (cells .entry)) level finger) (tree (now (cells .entry)) (root .levels) level (root .at))) ⌝ }
 {
     match view::<K>(cells, level, side, root) {
         View::Empty => make_single::<K>(cells, free, level, finger),

@@ -10,7 +10,7 @@ use Rattle.cells.specs.Cells.{end, node, nodes, tree}
 use Rattle.cells.specs.Chain.{Sound}
 use Rattle.cells.specs.Fingers.{listed}
 use Rattle.cells.proofs.Opened.{tree-none}
-use Rattle.ends.proofs.Pushing.{four-listed, push-empty, push-single, push-roomy, fingers-formed, fingers-count, middle-ready, three-ready, carried-count, near-ready, far-ready, below-ready, below-levels, level-count, push-fuller}
+use Rattle.ends.proofs.Pushing.{push-some, full-levels, below-some, below-exact, four-listed, push-empty, push-single, push-roomy, fingers-formed, fingers-count, middle-ready, three-ready, carried-count, near-ready, far-ready, below-ready, below-levels, level-count, push-fuller}
 use Rattle.ends.proofs.push.+push.Needs as need
 
 pub deep-at-requires : need.deep-at-requires
@@ -22,7 +22,7 @@ deep-at-requires g t c κs =
     let n = ap (λ ps. count-run (nodes h k ps)) (c .one-near .ensures) in
     let f = ap (λ ps. count-run (nodes h k ps)) (c .one-far .ensures) in
     record {
-      room = omega (arith, c .pre .room);
+      room = omega (arith, push-some (g .K·Kind .kind) (end (c .args .side)) (c .args .cells .now) (c .args .level) (c .args .finger) (c .args .root) (c .pre .finger) (c .pre .formed), c .pre .room);
       sound = c .pre .sound;
       shallow = omega (arith, c .pre .shallow);
       near = rw (c .one-near .ensures) (c .pre .finger, tt);
@@ -41,7 +41,7 @@ three-at-three-requires g t c κs =
     let full = four-listed (c .in-Deep .near) (c .if-near-lt4 .left) in
     let e = fingers-formed q (end (c .args .side)) (c .args .cells .now) (c .args .level) (c .args .finger) (c .args .root) (c .pre .finger) (c .pre .formed) (c .in-Deep .ensures tt) full in
     let n = fingers-count q (end (c .args .side)) (c .args .cells .now) (c .args .level) (c .args .finger) (c .args .root) (c .pre .finger) (c .pre .formed) (c .in-Deep .ensures tt) full in
-    record { room = omega (arith, c .pre .room); sound = c .pre .sound; near = e .1 .0; middle = e .1 .1 .0; far = e .1 .1 .1 .0; fits = omega (arith, n, c .pre .fits) }
+    record { room = omega (arith, push-some (g .K·Kind .kind) (end (c .args .side)) (c .args .cells .now) (c .args .level) (c .args .finger) (c .args .root) (c .pre .finger) (c .pre .formed), c .pre .room); sound = c .pre .sound; near = e .1 .0; middle = e .1 .1 .0; far = e .1 .1 .1 .0; fits = omega (arith, n, c .pre .fits) }
 
 pub push-below-requires : need.push-below-requires
 push-below-requires g t c κs within =
@@ -60,7 +60,7 @@ push-below-requires g t c κs within =
             (
               within .1 .1 .1,
               (
-                omega (arith, c .pre .room),
+                omega (arith, full-levels (g .K·Kind .kind) (end (c .args .side)) (c .args .cells .now) (c .args .level) (c .args .finger) (c .args .root) (c .pre .finger) (c .pre .formed) (c .in-Deep .ensures tt) full (c .three-at-three .ensures) step, c .pre .room),
                 (
                   c .three-at-three .ensures .grown .sound,
                   (
@@ -83,7 +83,7 @@ deep-at-requires-in-Deep g t c κs =
     let spent = c .three-at-three .ensures .grown .spent in
     let more = c .push-below .ensures .grown .spent in
     record {
-      room = omega (arith, l, spent, more, c .pre .room);
+      room = omega (arith, full-levels (g .K·Kind .kind) (end (c .args .side)) (c .args .cells .now) (c .args .level) (c .args .finger) (c .args .root) (c .pre .finger) (c .pre .formed) (c .in-Deep .ensures tt) full (c .three-at-three .ensures) step, below-exact (g .K·Kind .kind) (end (c .args .side)) (c .args .cells .now) (c .args .level) (c .args .finger) (c .args .root) (c .pre .finger) (c .pre .formed) (c .in-Deep .ensures tt) full (c .three-at-three .ensures) step (c .push-below .ensures) _ (c .two-two .ensures), below-some (g .K·Kind .kind) (end (c .args .side)) (c .args .cells .now) (c .args .level) (c .args .finger) (c .args .root) (c .pre .finger) (c .pre .formed) (c .in-Deep .ensures tt) full (c .three-at-three .ensures) step (c .push-below .ensures) _ (c .two-two .ensures), spent, more, c .pre .room);
       sound = c .push-below .ensures .grown .sound;
       shallow = omega (arith, l, c .pre .shallow);
       near = near-ready (g .K·Kind .kind) (end (c .args .side)) (c .args .cells .now) (c .args .level) (c .args .finger) (c .args .root) (c .pre .finger) (c .pre .formed) (c .in-Deep .ensures tt) full (c .three-at-three .ensures) step (c .push-below .ensures) _ (c .two-two .ensures);
@@ -104,3 +104,19 @@ returns-else-near-lt4 g t c =
     let full = four-listed (c .in-Deep .near) (c .if-near-lt4 .left) in
     let step : suc (c .args .level) ≡ c .args .level + 1 = omega arith in
     push-fuller (g .K·Kind .kind) (end (c .args .side)) (c .args .cells .now) (c .args .level) (c .args .finger) (c .args .root) (c .pre .finger) (c .pre .formed) (c .in-Deep .ensures tt) full (c .three-at-three .ensures) step (c .push-below .ensures) _ (c .two-two .ensures) (c .deep-at-in-Deep .ensures)
+
+pub deep-at-requires-then-near-lt4 : need.deep-at-requires-then-near-lt4
+deep-at-requires-then-near-lt4 g t c κs =
+    let k = c .args .level in
+    let h = c .args .cells .now in
+    let seen = c .in-Deep .ensures tt in
+    let n = ap (λ ps. count-run (nodes h k ps)) (c .prepend-more .ensures) in
+    record {
+      room = omega (arith, push-some (g .K·Kind .kind) (end (c .args .side)) (c .args .cells .now) (c .args .level) (c .args .finger) (c .args .root) (c .pre .finger) (c .pre .formed), c .pre .room);
+      sound = c .pre .sound;
+      shallow = omega (arith, seen .levels, c .pre .shallow);
+      near = rw (c .prepend-more .ensures) (c .pre .finger, seen .near-formed);
+      middle = seen .middle-formed;
+      far = seen .far-formed;
+      fits = omega (arith, n, seen .counts, c .pre .fits);
+    }
