@@ -29,8 +29,8 @@ use Rattle.ends.proofs.Pushing.{made-levels, made-as}
 
 module _ {I T : Type 0} where
   -- five pushes at most
-  pub base-room : (n : ℕ) (ps : List ℕ) (t u : Tree I T) → t ≡ u → length ps ≤ 5 → 10 * suc (levels t) ≤ n → 2 * (length ps * suc (levels u)) ≤ n
-  base-room n ps t u e few l = let m = mul-le-mul-right (suc (levels u)) few in omega (arith, m, ap levels e)
+  pub base-room : (n : ℕ) (ps : List ℕ) (t u : Tree I T) → t ≡ u → length ps ≤ 5 → 10 * levels t ≤ n → 2 * (length ps * levels u) ≤ n
+  base-room n ps t u e few l = let m = mul-le-mul-right (levels u) few in omega (arith, m, ap levels e)
 
   pub base-made : {h h′ : List (Cell I T)} {f f′ : FreeList} {k : ℕ} {r : Root} (ps : List ℕ) (t u : Tree I T) → t ≡ u → length ps ≤ 5 → Made-tree h h′ f f′ (2 * (length ps * r .levels)) k r u → Made-tree h h′ f f′ (10 * r .levels) k r t
   base-made {h} {h′} {f} {f′} {k} {r} ps t u e few v = let m = mul-le-mul-right (r .levels) few in made-as (10 * r .levels) t v (sym e) (omega (arith, m))

@@ -2,7 +2,7 @@
 use mathlib.Core.Path.{_≡_, refl, sym, ap, _∙_, subst}
 use mathlib.Core.List.{List, [], _∷_, _++_}
 use mathlib.Core.Logic.{_⊎_, inl, inr}
-use Prim.Native.Nat.{ℕ, zero, suc, _+_, _*_, _<_, _≤_, _^_}
+use Prim.Native.Nat.{ℕ, zero, suc, _+_, _*_, _<_, _≤_, _^_, _-_}
 use native.Mathlib.Omega.{arith}
 use native.Mathlib.Nat.{suc-mul, mul-suc, mul-le-mul-left}
 use lib.ListN.{length}
@@ -58,10 +58,10 @@ module _ {I T Q : Type 0} (q : Algebra I T Q) (s : Side) (h : List (Cell I T)) (
   one-longer = ap length e
 
   -- n turns of a and one of b, and n of the smaller a
-  pub others-room : (n : ℕ) → 2 * (length ps * suc (levels (pushed q s (nodes h k ps) (tree h (root .levels) k (root .at))))) ≤ n → 2 * (length qs * suc (levels (pushed q s (nodes h k qs) (tree h (root .levels) k (root .at))))) ≤ n
+  pub others-room : (n : ℕ) → 2 * (length ps * levels (pushed q s (nodes h k ps) (tree h (root .levels) k (root .at)))) ≤ n → 2 * (length qs * levels (pushed q s (nodes h k qs) (tree h (root .levels) k (root .at)))) ≤ n
   others-room n l =
-      let a = suc (levels (pushed q s (nodes h k qs) (tree h (root .levels) k (root .at)))) in
-      let b = suc (levels (pushed q s (nodes h k ps) (tree h (root .levels) k (root .at)))) in
+      let a = levels (pushed q s (nodes h k qs) (tree h (root .levels) k (root .at))) in
+      let b = levels (pushed q s (nodes h k ps) (tree h (root .levels) k (root .at))) in
       let less : a ≤ b = omega (arith, others-levels) in
       let m = mul-le-mul-left (length qs) less in
       let c = ap (λ i. i * b) one-longer ∙ suc-mul (length qs) b in
@@ -71,19 +71,25 @@ module _ {I T Q : Type 0} (q : Algebra I T Q) (s : Side) (h : List (Cell I T)) (
     pub others-depth : r .levels ≡ levels (pushed q s (nodes h k qs) (tree h (root .levels) k (root .at)))
     others-depth = made-levels u others-formed
 
-    pub next-room : 2 * (length ps * suc (levels (pushed q s (nodes h k ps) (tree h (root .levels) k (root .at))))) ≤ f .count → 2 * (r .levels + 1) ≤ f₁ .count
+    first-kept : node h₁ k x ≡ node h k x
+    first-kept = keep-node (u .grown .extends) k x (parts .0)
+
+    next-is : push q s (node h₁ k x) (tree h₁ (r .levels) k (r .at)) ≡ pushed q s (nodes h k ps) (tree h (root .levels) k (root .at))
+    next-is = rw (first-kept, u .reads) (sym all-of)
+
+    pub next-levels : levels (push q s (node h₁ k x) (tree h₁ (r .levels) k (r .at))) ≡ levels (pushed q s (nodes h k ps) (tree h (root .levels) k (root .at)))
+    next-levels = ap levels next-is
+
+    pub next-room : 2 * (length ps * levels (pushed q s (nodes h k ps) (tree h (root .levels) k (root .at)))) ≤ f .count → 2 * levels (push q s (node h₁ k x) (tree h₁ (r .levels) k (r .at))) ≤ f₁ .count + 1
     next-room l =
         let b = levels (pushed q s (nodes h k ps) (tree h (root .levels) k (root .at))) in
-        let less : r .levels ≤ suc b = omega (arith, others-levels, others-depth) in
+        let less : r .levels ≤ b = omega (arith, others-levels, others-depth) in
         let m = mul-le-mul-left (length qs) less in
-        let c = ap (λ i. i * suc b) one-longer ∙ suc-mul (length qs) (suc b) in
-        omega (arith, m, c, u .grown .spent, others-levels, others-depth)
+        let c = ap (λ i. i * b) one-longer ∙ suc-mul (length qs) b in
+        omega (arith, m, c, u .grown .spent, next-levels)
 
     pub next-formed : Formed k (tree h₁ (r .levels) k (r .at))
     next-formed = subst (Formed k) (sym (u .reads)) others-formed
-
-    first-kept : node h₁ k x ≡ node h k x
-    first-kept = keep-node (u .grown .extends) k x (parts .0)
 
     pub first-ready : Formed-node k (node h₁ k x)
     first-ready = subst (Formed-node k) (sym first-kept) (parts .0)
@@ -91,7 +97,7 @@ module _ {I T Q : Type 0} (q : Algebra I T Q) (s : Side) (h : List (Cell I T)) (
     pub next-count : count-node (node h₁ k x) + count (tree h₁ (r .levels) k (r .at)) ≡ count-run (nodes h k ps) + count (tree h (root .levels) k (root .at))
     next-count = omega (arith, ap count-node first-kept, ap count (u .reads), pushed-count q s k (nodes h k qs) (tree h (root .levels) k (root .at)) (parts .1) w, others-count)
 
-    pub pushed-all : {h₂ : List (Cell I T)} {f₂ : FreeList} {o : Root} → Made-tree h₁ h₂ f₁ f₂ (2 * o .levels) k o (push q s (node h₁ k x) (tree h₁ (r .levels) k (r .at))) → Made-tree h h₂ f f₂ (2 * (length ps * o .levels)) k o (pushed q s (nodes h k ps) (tree h (root .levels) k (root .at)))
+    pub pushed-all : {h₂ : List (Cell I T)} {f₂ : FreeList} {o : Root} → Made-tree h₁ h₂ f₁ f₂ (2 * o .levels - 1) k o (push q s (node h₁ k x) (tree h₁ (r .levels) k (r .at))) → Made-tree h h₂ f f₂ (2 * (length ps * o .levels)) k o (pushed q s (nodes h k ps) (tree h (root .levels) k (root .at)))
     pushed-all {h₂} {f₂} {o} z =
         let depth = made-levels z (push-formed q s k (node h₁ k x) (tree h₁ (r .levels) k (r .at)) first-ready next-formed) in
         let deeper = push-deeper q s k (node h₁ k x) (tree h₁ (r .levels) k (r .at)) next-formed in
@@ -101,5 +107,5 @@ module _ {I T Q : Type 0} (q : Algebra I T Q) (s : Side) (h : List (Cell I T)) (
         let c = ap (λ i. i * o .levels) one-longer ∙ suc-mul (length qs) (o .levels) in
         record {
           grown = grown-more (2 * (length ps * o .levels)) (u .grown) (z .grown) (omega (arith, m, c));
-          reads = z .reads ∙ rw (first-kept, u .reads) (sym all-of);
+          reads = z .reads ∙ next-is;
         }

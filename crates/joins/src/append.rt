@@ -37,7 +37,7 @@ pub fn push_run<K: Kind>(
     run: Option<Digit>,
     root: Root,
 ) -> Root
-    requires room { ⌜ 2 * (length (listed-some run) * suc (depth (pushed (K·Kind .kind) (end side) (nodes (now cells) level (listed-some run)) (tree (now cells) (root .levels) level (root .at))))) ≤ now free .count ⌝ }
+    requires room { ⌜ 2 * (length (listed-some run) * depth (pushed (K·Kind .kind) (end side) (nodes (now cells) level (listed-some run)) (tree (now cells) (root .levels) level (root .at)))) ≤ now free .count ⌝ }
     requires sound { ⌜ Sound (now cells) (now free) ⌝ }
     requires shallow { ⌜ level + depth (pushed (K·Kind .kind) (end side) (nodes (now cells) level (listed-some run)) (tree (now cells) (root .levels) level (root .at))) < 64 ⌝ }
     requires formed { ⌜ Formed level (tree (now cells) (root .levels) level (root .at)) ⌝ }
@@ -65,7 +65,7 @@ pub fn push_after<K: Kind>(
     others: Option<Digit>,
     root: Root,
 ) -> Root
-    requires room { ⌜ 2 * (suc (length (listed-some others)) * suc (depth (pushed (K·Kind .kind) (end side) (nodes (now cells) level (finger ∷ listed-some others)) (tree (now cells) (root .levels) level (root .at))))) ≤ now free .count ⌝ }
+    requires room { ⌜ 2 * (suc (length (listed-some others)) * depth (pushed (K·Kind .kind) (end side) (nodes (now cells) level (finger ∷ listed-some others)) (tree (now cells) (root .levels) level (root .at)))) ≤ now free .count ⌝ }
     requires sound { ⌜ Sound (now cells) (now free) ⌝ }
     requires shallow { ⌜ level + depth (pushed (K·Kind .kind) (end side) (nodes (now cells) level (finger ∷ listed-some others)) (tree (now cells) (root .levels) level (root .at))) < 64 ⌝ }
     requires formed { ⌜ Formed level (tree (now cells) (root .levels) level (root .at)) ⌝ }
@@ -86,7 +86,7 @@ pub fn append<K: Kind>(
     loose: Option<Digit>,
     right: Root,
 ) -> Root
-    requires room { ⌜ 10 * suc (depth (appended (K·Kind .kind) (tree (now cells) (left .levels) level (left .at)) (nodes (now cells) level (listed-some loose)) (tree (now cells) (right .levels) level (right .at)))) ≤ now free .count ⌝ }
+    requires room { ⌜ 10 * depth (appended (K·Kind .kind) (tree (now cells) (left .levels) level (left .at)) (nodes (now cells) level (listed-some loose)) (tree (now cells) (right .levels) level (right .at))) ≤ now free .count ⌝ }
     requires sound { ⌜ Sound (now cells) (now free) ⌝ }
     requires shallow { ⌜ level + depth (appended (K·Kind .kind) (tree (now cells) (left .levels) level (left .at)) (nodes (now cells) level (listed-some loose)) (tree (now cells) (right .levels) level (right .at))) < 64 ⌝ }
     requires left { ⌜ Formed level (tree (now cells) (left .levels) level (left .at)) ⌝ }
