@@ -247,3 +247,16 @@ module _ {I T : Type 0} (h : List (Cell I T)) (k : ℕ) (root m : Root) (f b : F
   from-back =
       let v = subst (Formed k) e w in
       record { total = t; items = n; is = e; levels = l; near-formed = v .1 .1 .1 .1 .1; middle-formed = v .1 .1 .0; far-formed = v .1 .0 .1 .1; counts = ap count e ∙ omega (arith, v .0) }
+
+-- a node of depth 0 is an item
+pub only-item : {I T : Type 0} (h : List (Cell I T)) (p : ℕ) → Formed-node 0 (node h 0 p) → (b : Body I T) → b ≡ body h p → ((i : I) → b ≡ Item i → ⊥) → ⊥
+unfolding node
+only-item h p w b e no-item = go b refl (subst (λ b. Formed-node 0 (leaf-of b)) (sym e) w)
+  where
+    go : (c : Body _ _) → b ≡ c → Formed-node 0 (leaf-of c) → ⊥
+    go Free f v = v
+    go (Item i) f v = no-item i f
+    go (Two t n l r) f v = v
+    go (Three t n l m r) f v = v
+    go (Single g) f v = v
+    go (Deep t n d g m o) f v = v

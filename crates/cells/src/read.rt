@@ -1,7 +1,7 @@
 // The reading of nodes and levels.
 ghost use mathlib.Core.Path.{_≡_};
 ghost use Prim.Native.Nat.{ℕ, suc, _+_, _<_, _^_};
-ghost use Rattle.model.specs.Tree.{count-node, count-run, count};
+ghost use Rattle.model.specs.Tree.{leaf, count-node, count-run, count};
 ghost use Rattle.model.specs.Measures.{sum-node, sum-run, sum};
 ghost use Rattle.model.specs.Measures.{toward as nearer};
 ghost use Rattle.model.specs.Ends.{fingers as parts};
@@ -219,6 +219,19 @@ pub fn fingers_of<K: Kind>(
             Side::Front => digits::three(left, middle, right),
             Side::Back => digits::three(right, middle, left),
         },
+        _ => unreachable(),
+    }
+}
+
+// The item that a node of depth 0 is.
+pub fn read_item<K: Kind>(cells: &[Cell<K::Item, K::Total>], at: u32) -> K::Item
+    requires { ⌜ Formed-node 0 (node (now cells) 0 at) ⌝ }
+    ensures { λ r. ⌜ node (now (cells .entry)) 0 at ≡ leaf r ⌝ }
+{
+    let cell = cells[at as usize];
+    let body = cell.body;
+    match body {
+        Body::Item { item } => item,
         _ => unreachable(),
     }
 }

@@ -1,0 +1,54 @@
+-- A root as the list that it stands for, and what each operation on it leaves. Assumes nothing.
+use mathlib.Core.Path.{_≡_}
+use mathlib.Core.Bool.{true}
+use mathlib.Core.List.{List, [], _∷_}
+use Prim.Native.Nat.{ℕ, _+_, _*_}
+use Rattle.std.specs.declared.option.Option.{Option}
+use Rattle.std.specs.declared.option.Option.the-variants.{Some, None}
+use Rattle.kinds.specs.Algebra.{Algebra}
+use Rattle.model.specs.Tree.{Tree, Side, along, formed, items}
+use Rattle.model.specs.Statements.{Sound}
+use Rattle.cells.specs.Cells.{tree}
+use Rattle.cells.specs.Chain.{Grown}
+use Rattle.cells.specs.declared.cell.Cell.{Cell}
+use Rattle.cells.specs.declared.cell.FreeList.{FreeList}
+use Rattle.cells.specs.declared.cell.Root.{Root}
+use Rattle.lists.specs.declared.taken.Taken.{Taken}
+
+module _ {I T : Type 0} where
+  -- The tree that a root stands for, and its items from left to right.
+  abbrev pub tree-at : List (Cell I T) → Root → Tree I T
+  tree-at h r = tree h (r .levels) 0 (r .at)
+
+  abbrev pub list-at : List (Cell I T) → Root → List I
+  list-at h r = items (tree-at h r)
+
+  -- It is a 2-3 finger tree of as many levels as the root says, with digits of one to four fingers and right item counts.
+  abbrev pub Whole : List (Cell I T) → Root → Type 0
+  Whole h r = formed (r .levels) 0 (tree-at h r) ≡ true
+
+  -- Its stored totals are its items', and its items are admitted.
+  abbrev pub Right : {Q : Type 0} → Algebra I T Q → List (Cell I T) → Root → Type 0
+  Right k h r = Sound k (tree-at h r)
+
+  -- At most `cost` free cells were taken, every whole tree reads as before, and the root r is whole and stands for xs.
+  pub record Made (h h′ : List (Cell I T)) (free free′ : FreeList) (cost : ℕ) (r : Root) (xs : List I) : Type 0 where
+    pub grown : Grown h h′ free free′ cost
+    pub stays : (old : Root) → Whole h old → tree-at h′ old ≡ tree-at h old
+    pub whole : Whole h′ r
+    pub list : list-at h′ r ≡ xs
+
+  -- What a take at a side gives of the list xs: nothing of the empty one alone, else the item there, and the others.
+  pub record Took (h h′ : List (Cell I T)) (free free′ : FreeList) (cost : ℕ) (side : Side) (xs : List I) (item : I) (r : Root) : Type 0 where
+    pub rest : List I
+    pub made : Made h h′ free free′ cost r rest
+    pub was : xs ≡ along side (item ∷ []) rest
+
+  abbrev pub Given : List (Cell I T) → List (Cell I T) → FreeList → FreeList → ℕ → Side → List I → Option (Taken I) → Type 0
+  Given h h′ free free′ cost side xs None = (xs ≡ []) × (h′ ≡ h) × (free′ ≡ free)
+  Given h h′ free free′ cost side xs (Some t) = Took h h′ free free′ cost side xs (t .item) (t .rest)
+
+  -- Totals stay right.
+  abbrev pub Given-right : {Q : Type 0} → Algebra I T Q → List (Cell I T) → Option (Taken I) → Type 0
+  Given-right k h None = Unit {0}
+  Given-right k h (Some t) = Right k h (t .rest) × (k .admitted (t .item) ≡ true)

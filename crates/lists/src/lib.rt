@@ -1,0 +1,15 @@
+// Lists in cells: what is done with a root, by the list that it stands for.
+//
+// Each function takes the lent cells and their free list. Cells in use are never written, so that every other root
+// reads as before; a result shares what it can with its sources.
+mod joining;
+mod reads;
+mod sides;
+mod taken;
+
+pub use joining::join;
+pub use reads::length;
+pub use reads::total;
+pub use sides::pop;
+pub use sides::push;
+pub use taken::Taken;
