@@ -55,6 +55,18 @@ module _ {I T Q : Type 0} {k : Algebra I T Q} (laws : Laws k) where
       go true e ih = (refl, (omega arith, omega arith))
       go false e ih = (ih e .0, wider (seek-from k q (suc n) next xs) (ih e .1))
 
+  -- a row that is not empty, and at whose end the question is met, is where it is met
+  pub seek-stops : (q : Q) (n : ℕ) (acc : T) (xs ys : List I) → k .fair acc → Admitted k xs → 1 ≤ length xs → k .met (k .joined acc (total k xs)) q ≡ true → seek-from k q n acc (xs ++ ys) ≡ seek-from k q n acc xs
+  seek-stops q n acc [] ys f h l i = absurd (omega arith)
+  seek-stops q n acc (x ∷ xs) ys f h l i = go (k .met next q) refl
+    where
+      next : T
+      next = k .joined acc (k .measure x)
+
+      go : (b : Bool) → k .met next q ≡ b → choose b (found n acc) (seek-from k q (suc n) next (xs ++ ys)) ≡ choose b (found n acc) (seek-from k q (suc n) next xs)
+      go true e = refl
+      go false e = seek-lands q (suc n) next xs ys (fair-next acc x f (h .0)) (h .1) e (ap (λ z. k .met z q) (regroup acc x xs f (h .0) (h .1)) ∙ i) .0
+
   -- what seek-from gives: the item at the offset o
   record From (q : Q) (n : ℕ) (acc : T) (xs : List I) (j : ℕ) (t : T) : Type 0 where
     o : ℕ

@@ -24,7 +24,7 @@ use Rattle.model.proofs.Seeking.{seek-finds, seek-skips}
 
 module _ {I T : Type 0} where
   -- no part of a formed tree is empty
-  node-some : (k : ℕ) (a : Node I T) → Formed-node k a → 1 ≤ length (items-node a)
+  pub node-some : (k : ℕ) (a : Node I T) → Formed-node k a → 1 ≤ length (items-node a)
   node-some zero (leaf x) w = omega arith
   node-some zero (two t n a b) w = elim w [ ]
   node-some zero (three t n a b c) w = elim w [ ]
@@ -34,7 +34,7 @@ module _ {I T : Type 0} where
   node-some (suc k) (two t n a b) w = simp length-append (omega (arith, node-some k a (w .1 .0)))
   node-some (suc k) (three t n a b c) w = simp length-append (omega (arith, node-some k a (w .1 .0)))
 
-  run-some : (k : ℕ) (f : List (Node I T)) → Digit k f → 1 ≤ length (run front f)
+  pub run-some : (k : ℕ) (f : List (Node I T)) → Digit k f → 1 ≤ length (run front f)
   run-some k [] w = absurd (omega (arith, w .0))
   run-some k (a ∷ more) w = simp length-append (omega (arith, node-some k a (w .1 .1 .0)))
 
