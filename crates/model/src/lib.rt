@@ -1,7 +1,7 @@
 // A pure model of 2-3 finger trees.
 ghost use Rattle.model.specs.Statements.{Counts-are-lengths, Fewest-items, Few-cells, Push-forms, Push-items, Pop-keeps, Append-keeps, Replaced-keeps};
 ghost use Rattle.model.specs.Statements.{Totals-join, Totals-fair, Push-measures, Pop-measures, Append-measures, Replaced-measures};
-ghost use Rattle.model.specs.Statements.{Seek-finds, Seek-decides, Seek-skips, Seek-lands, Alike-seeks, Split-lands, Split-seeks};
+ghost use Rattle.model.specs.Statements.{Seek-finds, Seek-decides, Seek-skips, Seek-lands, Alike-seeks, Split-keeps, Split-measures};
 use kinds::Kind;
 
 pub fn counts_are_lengths<I, T>() -> u8
@@ -68,9 +68,9 @@ pub fn seek_finds<K: Kind>() -> u8
     0
 }
 
-pub fn split_seeks<K: Kind>() -> u8
-    ensures lands { λ _. ⌜ Split-lands (K·Kind .kind) ⌝ }
-    ensures seeks { λ _. ⌜ Split-seeks (K·Kind .kind) ⌝ }
+pub fn split_parts<K: Kind>() -> u8
+    ensures keeps { λ _. ⌜ Split-keeps (K·Kind .kind) ⌝ }
+    ensures measures { λ _. ⌜ Split-measures (K·Kind .kind) ⌝ }
 {
     0
 }
