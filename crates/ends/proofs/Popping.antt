@@ -70,14 +70,6 @@ module _ {I T : Type 0} (h : List (Cell I T)) (k : ℕ) where
   count-append (p ∷ ps) rs = omega (arith, count-append ps rs)
 
 module _ {I T : Type 0} where
-  pub count-fingers : (s : Side) (k : ℕ) (a : Node I T) → Formed-node (suc k) a → count-run (fingers s a) ≡ count-node a
-  count-fingers s k (leaf x) w = elim w [ ]
-  count-fingers front k (two t n a b) w = omega (arith, w .0)
-  count-fingers back k (two t n a b) w = omega (arith, w .0)
-  count-fingers front k (three t n a b c) w = omega (arith, w .0)
-  count-fingers back k (three t n a b c) w = omega (arith, w .0)
-  count-fingers s k gap w = elim w [ ]
-
   pub grown-none : {h : List (Cell I T)} {f : FreeList} (c : ℕ) → Sound h f → Grown h h f f c
   grown-none c u = record { extends = record { long = refl; kept = λ p used. refl }; sound = u; spent = omega arith }
 

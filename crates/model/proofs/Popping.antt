@@ -5,7 +5,7 @@ use mathlib.Core.Logic.{_⊎_, inl, inr}
 use Prim.Native.Nat.{ℕ, suc, _≤_}
 use native.Mathlib.Omega.{arith}
 use lib.ListN.{length}
-use Rattle.model.specs.Tree.{Node, leaf, two, three, gap, Tree, none, single, deep, torn, Side, front, back, along, items-node, run, items, levels}
+use Rattle.model.specs.Tree.{Node, leaf, two, three, gap, Tree, none, single, deep, torn, Side, front, back, along, items-node, run, items, count-node, count-run, levels}
 use Rattle.kinds.specs.Algebra.{Algebra, Laws}
 use Rattle.model.specs.Ends.{near, other, tree-of, fingers, Popped, empty, got, trim, take-near, pop}
 use Rattle.model.specs.Statements.{Popped-well, Pop-keeps, Pop-measures}
@@ -32,6 +32,14 @@ module _ {I T : Type 0} where
   fingers-formed back k (three t n a b c) w = ((omega arith, (omega arith, (w .1 .1 .1, (w .1 .1 .0, (w .1 .0, tt))))), simp append-assoc)
   fingers-formed s k gap w = elim w [ ]
 
+  pub count-fingers : (s : Side) (k : ℕ) (a : Node I T) → Formed-node (suc k) a → count-run (fingers s a) ≡ count-node a
+  count-fingers s k (leaf x) w = elim w [ ]
+  count-fingers front k (two t n a b) w = omega (arith, w .0)
+  count-fingers back k (two t n a b) w = omega (arith, w .0)
+  count-fingers front k (three t n a b c) w = omega (arith, w .0)
+  count-fingers back k (three t n a b c) w = omega (arith, w .0)
+  count-fingers s k gap w = elim w [ ]
+
   pub fingers-weighed : {Q : Type 0} (k : Algebra I T Q) (s : Side) (a : Node I T) → Weighed-node k a → Weighed-each k (fingers s a)
   fingers-weighed k front (leaf x) u = tt
   fingers-weighed k back (leaf x) u = tt
@@ -49,7 +57,7 @@ module _ {I T Q : Type 0} (q : Algebra I T Q) where
       let ih = tree-of-formed s k more (w .1) in
       (push-formed q s k a (tree-of q s more) (w .0) (ih .0), push-items q s k a (tree-of q s more) (ih .0) ∙ ap (along s (items-node a)) (ih .1))
 
-  tree-of-levels : (s : Side) (k : ℕ) (ds : List (Node I T)) → Digit k ds → levels (tree-of q s ds) ≡ 1
+  pub tree-of-levels : (s : Side) (k : ℕ) (ds : List (Node I T)) → Digit k ds → levels (tree-of q s ds) ≡ 1
   tree-of-levels s k [] w = omega (arith, w .0)
   tree-of-levels s k (a ∷ []) w = refl
   tree-of-levels front k (a ∷ b ∷ []) w = refl

@@ -1,16 +1,16 @@
 -- The theorems. Assumes nothing.
 use mathlib.Core.Path.{_≡_}
-use mathlib.Core.Bool.{Bool, true, false}
+use mathlib.Core.Bool.{true, false}
 use mathlib.Core.Logic.{_⊎_}
 use mathlib.Core.List.{List, [], _∷_, _++_}
 use Prim.Native.Nat.{ℕ, suc, _+_, _*_, _^_, _≤_, _<_}
 use lib.ListN.{length, take, drop, getD, set}
 use Rattle.kinds.specs.Algebra.{Algebra}
-use Rattle.model.specs.Tree.{Node, leaf, two, three, gap, Tree, Side, along, formed, count, items, cells, levels}
+use Rattle.model.specs.Tree.{Node, leaf, two, three, gap, Tree, Side, along, formed, count, items-node, items, cells, levels}
 use Rattle.model.specs.Measures.{Admitted, total, Measured, sum, Fair}
 use Rattle.model.specs.Ends.{push, Popped, empty, got, pop}
 use Rattle.model.specs.Append.{append}
-use Rattle.model.specs.Split.{Parts, parts, split, Lands}
+use Rattle.model.specs.Split.{Parts, parts, split}
 use Rattle.model.specs.Replace.{replaced}
 use Rattle.model.specs.Seek.{Sought, missed, found, seek-from, seek, Well-sought, Alike}
 
@@ -35,20 +35,25 @@ Popped-well d s t (got gap rest) = ⊥
 abbrev pub Sound : {I T Q : Type 0} → Algebra I T Q → Tree I T → Type 0
 Sound k t = Measured k t × Admitted k (items t)
 
--- t in parts at its item j: l is what stands before, and r what stands after
-pub record Parted {I T Q : Type 0} (k : Algebra I T Q) (t : Tree I T) (j : ℕ) (l : Tree I T) (x : I) (r : Tree I T) : Type 0 where
+-- t, of at most d levels, in parts at its item j: l is what stands before, and r what stands after
+pub record Parted {I T : Type 0} (d : ℕ) (t : Tree I T) (j : ℕ) (l : Tree I T) (x : I) (r : Tree I T) : Type 0 where
   pub left : items l ≡ take j (items t)
-  pub item : (d : I) → getD (items t) j d ≡ x
+  pub item : (o : I) → getD (items t) j o ≡ x
   pub right : items r ≡ drop (suc j) (items t)
   pub before : formed (levels l) 0 l ≡ true
   pub after : formed (levels r) 0 r ≡ true
-  pub sound : Sound k l × Sound k r
+  pub left-levels : levels l ≤ d
+  pub right-levels : levels r ≤ d
 
-abbrev pub Parted-at : {I T Q : Type 0} → Algebra I T Q → Tree I T → ℕ → Parts I T → Type 0
-Parted-at k t j (parts l (leaf x) r) = Parted k t j l x r
-Parted-at k t j (parts l (two y n a b) r) = ⊥
-Parted-at k t j (parts l (three y n a b c) r) = ⊥
-Parted-at k t j (parts l gap r) = ⊥
+abbrev pub Split-at : {I T : Type 0} → ℕ → Tree I T → ℕ → Parts I T → Type 0
+Split-at d t j (parts l (leaf x) r o) = Parted d t j l x r
+Split-at d t j (parts l (two y n a b) r o) = ⊥
+Split-at d t j (parts l (three y n a b c) r o) = ⊥
+Split-at d t j (parts l gap r o) = ⊥
+
+-- both trees are sound, and what stands between them is admitted
+abbrev pub Sound-parts : {I T Q : Type 0} → Algebra I T Q → Parts I T → Type 0
+Sound-parts k (parts l x r o) = Sound k l × (Admitted k (items-node x) × Sound k r)
 
 -- a position from n on, before m
 abbrev pub Between : {T : Type 0} → ℕ → ℕ → Sought T → Type 0
@@ -70,7 +75,7 @@ module _ {I T Q : Type 0} (k : Algebra I T Q) where
   Append-keeps = (d e : ℕ) (t u : Tree I T) → formed d 0 t ≡ true → formed e 0 u ≡ true → (formed (levels (append k t [] u)) 0 (append k t [] u) ≡ true) × (items (append k t [] u) ≡ items t ++ items u)
 
   abbrev pub Replaced-keeps : Type 0
-  Replaced-keeps = (d : ℕ) (t : Tree I T) (i : ℕ) (x : I) → formed d 0 t ≡ true → i < length (items t) → (items (replaced k t i x) ≡ set (items t) i x) × (formed d 0 (replaced k t i x) ≡ true)
+  Replaced-keeps = (d : ℕ) (t : Tree I T) (i : ℕ) (x : I) → formed d 0 t ≡ true → i < length (items t) → (items (replaced k x 0 i t) ≡ set (items t) i x) × (formed d 0 (replaced k x 0 i t) ≡ true)
 
   abbrev pub Totals-join : Type 0
   Totals-join = (xs ys : List I) → Admitted k xs → Admitted k ys → total k (xs ++ ys) ≡ k .joined (total k xs) (total k ys)
@@ -88,7 +93,7 @@ module _ {I T Q : Type 0} (k : Algebra I T Q) where
   Append-measures = (t u : Tree I T) → Sound k t → Sound k u → Sound k (append k t [] u)
 
   abbrev pub Replaced-measures : Type 0
-  Replaced-measures = (t : Tree I T) (i : ℕ) (x : I) → k .admitted x ≡ true → Sound k t → Sound k (replaced k t i x)
+  Replaced-measures = (t : Tree I T) (i : ℕ) (x : I) → k .admitted x ≡ true → Sound k t → Sound k (replaced k x 0 i t)
 
   -- what is sought is the least
   abbrev pub Seek-finds : Type 0
@@ -110,11 +115,9 @@ module _ {I T Q : Type 0} (k : Algebra I T Q) where
   abbrev pub Alike-seeks : Type 0
   Alike-seeks = (xs ys : List I) → Alike k xs ys → (total k xs ≡ total k ys) × ((q : Q) (n : ℕ) (acc : T) → seek-from k q n acc xs ≡ seek-from k q n acc ys)
 
-  abbrev pub asked : Q → T → Bool
-  asked q t = k .met t q
+  -- what is split at j stands before its item j, is that item, and stands after it
+  abbrev pub Split-keeps : Type 0
+  Split-keeps = (d : ℕ) (t : Tree I T) (j : ℕ) → formed d 0 t ≡ true → j < length (items t) → Split-at d t j (split k j t)
 
-  abbrev pub Split-lands : Type 0
-  Split-lands = (q : Q) (acc : T) (t : Tree I T) → k .fair acc → Sound k t → k .met acc q ≡ false → k .met (k .joined acc (sum k t)) q ≡ true → Lands k (asked q) acc t
-
-  abbrev pub Split-seeks : Type 0
-  Split-seeks = (q : Q) (d : ℕ) (t : Tree I T) (j : ℕ) (before : T) → formed d 0 t ≡ true → Sound k t → seek k q (items t) ≡ found j before → Lands k (asked q) (k .nothing) t × Parted-at k t j (split k (asked q) (k .nothing) t)
+  abbrev pub Split-measures : Type 0
+  Split-measures = (t : Tree I T) (j : ℕ) → Sound k t → Sound-parts k (split k j t)

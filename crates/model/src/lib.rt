@@ -4,7 +4,7 @@ mod levels;
 pub use levels::levels_for;
 ghost use Rattle.model.specs.Statements.{Counts-are-lengths, Fewest-items, Few-cells, Push-forms, Push-items, Pop-keeps, Append-keeps, Replaced-keeps};
 ghost use Rattle.model.specs.Statements.{Totals-join, Totals-fair, Push-measures, Pop-measures, Append-measures, Replaced-measures};
-ghost use Rattle.model.specs.Statements.{Seek-finds, Seek-decides, Seek-skips, Seek-lands, Alike-seeks, Split-lands, Split-seeks};
+ghost use Rattle.model.specs.Statements.{Seek-finds, Seek-decides, Seek-skips, Seek-lands, Alike-seeks, Split-keeps, Split-measures};
 ghost use Rattle.model.specs.Levels.{Most-is-largest, Levels-within};
 use kinds::Kind;
 
@@ -74,9 +74,9 @@ pub fn seek_finds<K: Kind>() -> u8
     0
 }
 
-pub fn split_seeks<K: Kind>() -> u8
-    ensures lands { λ _. ⌜ Split-lands (K·Kind .kind) ⌝ }
-    ensures seeks { λ _. ⌜ Split-seeks (K·Kind .kind) ⌝ }
+pub fn split_parts<K: Kind>() -> u8
+    ensures keeps { λ _. ⌜ Split-keeps (K·Kind .kind) ⌝ }
+    ensures measures { λ _. ⌜ Split-measures (K·Kind .kind) ⌝ }
 {
     0
 }

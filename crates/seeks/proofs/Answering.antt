@@ -13,7 +13,7 @@ use Rattle.model.specs.Statements.{Sound}
 use Rattle.model.proofs.Forms.{count-node-is, count-is}
 use Rattle.model.proofs.Totals.{weighed, fair-total, sum-is}
 use Rattle.model.proofs.Seeking.{seek-decides}
-use Rattle.model.proofs.Splitting.{node-some}
+use Rattle.model.proofs.Forms.{node-some}
 use Rattle.cells.specs.Cells.{node}
 use Rattle.cells.specs.declared.cell.Cell.{Cell}
 use Rattle.seeks.specs.Spots.{Spotted-tree}

@@ -18,7 +18,7 @@ use Rattle.model.proofs.Totals.{Weighed-each, Weighed, admits-append, admits-ru
 use Rattle.model.proofs.Popping.{fingers-formed, fingers-weighed}
 use Rattle.model.proofs.Appending.{run-onto, each-onto, all-onto}
 use Rattle.model.proofs.Seeking.{seek-stops, seek-lands}
-use Rattle.model.proofs.Splitting.{run-some}
+use Rattle.model.proofs.Forms.{run-some}
 use Rattle.cells.specs.Cells.{node, nodes, tree}
 use Rattle.cells.specs.Fingers.{listed}
 use Rattle.cells.specs.Made.{Seen-deep}

@@ -14,7 +14,7 @@ use Rattle.model.specs.Seek.{seek-from}
 use Rattle.model.proofs.Forms.{count-node-is}
 use Rattle.model.proofs.Totals.{admits-run, weighed, sum-node-is}
 use Rattle.model.proofs.Seeking.{seek-stops}
-use Rattle.model.proofs.Splitting.{node-some}
+use Rattle.model.proofs.Forms.{node-some}
 use Rattle.cells.specs.Cells.{node, nodes}
 use Rattle.cells.specs.Fingers.{listed}
 use Rattle.cells.proofs.Fours.{listed-length}

@@ -3,7 +3,7 @@ use mathlib.Core.Path.{_≡_, refl, sym, ap, _∙_, subst}
 use mathlib.Core.List.{List, [], _∷_, _++_, append-nil}
 use Prim.Native.Nat.{ℕ, zero, suc, _+_, _-_, _<_, _≤_}
 use native.Mathlib.Omega.{arith}
-use lib.ListN.{length, getD, drop}
+use lib.ListN.{length, getD}
 use Rattle.std.proofs.shelf.Lists.{getD-append-left, getD-append-right}
 use Rattle.model.specs.Tree.{Node, leaf, two, three, gap, Tree, Side, front, back, run, items-node, items, count-node, count-run, count}
 use Rattle.model.specs.Ends.{fingers}
@@ -11,45 +11,15 @@ use Rattle.model.specs.Forms.{Formed-node, Each}
 use Rattle.model.proofs.Forms.{count-node-is, count-run-is, count-is}
 use Rattle.model.proofs.Appending.{run-onto, each-onto}
 use Rattle.model.specs.Append.{onto}
-use Rattle.ends.proofs.Popping.{count-fingers}
 use Rattle.cells.specs.Fingers.{listed}
 use Rattle.cells.specs.Made.{Seen-deep}
 use Rattle.cells.specs.declared.cell.Root.{Root}
 use Rattle.cells.specs.declared.fingers.Digit.{Digit as Filled}
-use Rattle.model.proofs.Popping.{fingers-formed}
+use Rattle.model.proofs.Popping.{fingers-formed, count-fingers}
 use Rattle.cells.specs.Cells.{body, leaf-of, node, nodes, tree}
 use Rattle.cells.specs.declared.cell.Cell.{Cell}
 use Rattle.cells.specs.declared.cell.Body.{Body}
 use Rattle.cells.specs.declared.cell.Body.the-variants.{Free, Item, Two, Three, Single, Deep}
-use Rattle.splits.specs.Items.{Found-in}
-use Rattle.splits.specs.declared.item.Found.{Found}
-
-module _ {I T : Type 0} (h : List (Cell I T)) (k : ℕ) (ps : List ℕ) (v : Each k (nodes h k ps)) (x : ℕ) (qs : List ℕ) (e : ps ≡ x ∷ qs) (i : ℕ) where
-  parts : Each k (nodes h k (x ∷ qs))
-  parts = subst (λ ps. Each k (nodes h k ps)) e v
-
-  long : count-node (node h k x) ≡ length (items-node (node h k x))
-  long = count-node-is k (node h k x) (parts .0)
-
-  pub found-first : i < count-node (node h k x) → Found-in h k ps i (record { finger = x; offset = i })
-  found-first l = record {
-    formed = parts .0;
-    within = l;
-    same = λ d. sym (ap (λ ps. getD (run front (nodes h k ps)) i d) e ∙ getD-append-left (items-node (node h k x)) (run front (nodes h k qs)) d i (omega (arith, long)));
-  }
-
-  pub others-ready : Each k (nodes h k qs)
-  others-ready = parts .1
-
-  pub others-count : count-run (nodes h k ps) ≡ count-node (node h k x) + count-run (nodes h k qs)
-  others-count = ap (λ ps. count-run (nodes h k ps)) e
-
-  pub found-later : (n : ℕ) (r : Found) → n ≡ count-node (node h k x) → n ≤ i → Found-in h k qs (i - n) r → Found-in h k ps i r
-  found-later n r a l f = record {
-    formed = f .formed;
-    within = f .within;
-    same = λ d. f .same d ∙ sym (ap (λ ps. getD (run front (nodes h k ps)) i d) e ∙ getD-append-right (items-node (node h k x)) (run front (nodes h k qs)) n i d (sym long ∙ sym a) l);
-  }
 
 module _ {I T : Type 0} (h : List (Cell I T)) where
   -- an item is a node of depth 0
@@ -90,10 +60,6 @@ module _ {I T : Type 0} (h : List (Cell I T)) where
 
       pub parts-items : run front (nodes h k ps) ≡ items-node (node h k′ p)
       parts-items = ap (run front) e ∙ fingers-formed front k (node h (suc k) p) node-down .1 ∙ ap (λ j. items-node (node h j p)) s
-
-pub list-opened : (ps : List ℕ) (x : ℕ) → 1 ≤ length ps → x ≡ getD ps 0 0 → ps ≡ x ∷ drop 1 ps
-list-opened [] x l e = absurd (omega arith)
-list-opened (p ∷ ps) x l e = ap (λ y. y ∷ ps) (sym e)
 
 pub nodes-onto : {I T : Type 0} (h : List (Cell I T)) (k : ℕ) (xs ys : List ℕ) → nodes h k (onto xs ys) ≡ onto (nodes h k xs) (nodes h k ys)
 nodes-onto h k [] ys = refl

@@ -1,20 +1,15 @@
 -- What the halves of a tree are made of. Assumes nothing.
 use mathlib.Core.Path.{_≡_, refl, sym, ap, _∙_, subst}
-use mathlib.Core.List.{List, [], _∷_, _++_}
-use mathlib.Core.Logic.{_⊎_, inl, inr}
-use mathlib.Core.Bool.{Bool, true, false}
-use Prim.Native.Nat.{ℕ, zero, suc, _+_, _*_, _<_, _≤_}
+use mathlib.Core.List.{List}
+use Prim.Native.Nat.{ℕ, suc, _+_, _≤_}
 use native.Mathlib.Omega.{arith}
-use lib.ListN.{length, length-append}
+use lib.ListN.{length}
 use Rattle.std.proofs.shelf.Lists.{length-map}
-use Rattle.model.specs.Tree.{Node, Tree, none, single, deep, torn, Side, front, back, run, items-node, items, count-node, count-run, count, levels}
+use Rattle.model.specs.Tree.{Tree, Side, count-run, count}
 use Rattle.kinds.specs.Algebra.{Algebra}
-use Rattle.model.specs.Measures.{sum-node}
-use Rattle.model.specs.Ends.{other, tree-of, trim, pop}
-use Rattle.model.specs.Split.{choose, Cut, cutting, cut, Parts, parts, in-front}
+use Rattle.model.specs.Ends.{tree-of, trim, pop}
+use Rattle.model.specs.Split.{parts}
 use Rattle.model.specs.Forms.{Formed-node, Each, Digit, Formed}
-use Rattle.model.proofs.Forms.{count-is, count-run-is, length-along}
-use Rattle.model.proofs.Popping.{tree-of-formed, trimmed, popped}
 use Rattle.cells.specs.Cells.{node, nodes, tree}
 use Rattle.cells.specs.Fingers.{listed}
 use Rattle.cells.specs.Chain.{Extends}
@@ -31,50 +26,9 @@ module _ {I T : Type 0} where
   pub digit-of : (h : List (Cell I T)) (k : ℕ) (d : Filled) → Each k (nodes h k (listed d)) → Digit k (nodes h k (listed d))
   digit-of h k d w = let n = length-map (listed d) (node h k) ∙ listed-length d in let low = d .filled .0 in let top = d .filled .1 in (omega arith, (omega arith, w))
 
-  -- the fingers of a cut are those that were there
-  pub record Cut-formed (k many items : ℕ) (d : List (Node I T)) (x : Node I T) (r : List (Node I T)) : Type 0 where
-    pub before : Each k d
-    pub here : Formed-node k x
-    pub after : Each k r
-    pub few : length d + suc (length r) ≡ many
-    pub counts : count-run d + (count-node x + count-run r) ≡ items
-
-  abbrev pub Formed-cut : ℕ → ℕ → ℕ → Cut I T → Type 0
-  Formed-cut k many n (cutting d x r) = Cut-formed k many n d x r
-
-  module _ {Q : Type 0} (q : Algebra I T Q) (ask : T → Bool) (k : ℕ) where
-    pub cut-formed : (acc : T) (done ls : List (Node I T)) → Each k done → Each k ls → 1 ≤ length ls → Formed-cut k (length done + length ls) (count-run done + count-run ls) (cut q ask acc done ls)
-    cut-formed acc done [] u v l = absurd (omega arith)
-    cut-formed acc done (a ∷ []) u v l = record { before = u; here = v .0; after = tt; few = refl; counts = refl }
-    cut-formed acc done (a ∷ b ∷ more) u v l = go (ask (q .joined acc (sum-node q a))) (cut-formed (q .joined acc (sum-node q a)) (a ∷ done) (b ∷ more) (v .0, u) (v .1) (omega arith))
-      where
-        moved : {m n m′ n′ : ℕ} (c : Cut I T) → m ≡ m′ → n ≡ n′ → Formed-cut k m n c → Formed-cut k m′ n′ c
-        moved (cutting d x r) e f w = record { before = w .before; here = w .here; after = w .after; few = w .few ∙ e; counts = w .counts ∙ f }
-
-        go : (y : Bool) → Formed-cut k (length (a ∷ done) + length (b ∷ more)) (count-run (a ∷ done) + count-run (b ∷ more)) (cut q ask (q .joined acc (sum-node q a)) (a ∷ done) (b ∷ more)) → Formed-cut k (length done + length (a ∷ b ∷ more)) (count-run done + count-run (a ∷ b ∷ more)) (choose y (cutting done a (b ∷ more)) (cut q ask (q .joined acc (sum-node q a)) (a ∷ done) (b ∷ more)))
-        go true w = record { before = u; here = v .0; after = v .1; few = refl; counts = refl }
-        go false w = moved (cut q ask (q .joined acc (sum-node q a)) (a ∷ done) (b ∷ more)) (omega arith) (omega arith) w
-
-  module _ {Q : Type 0} (q : Algebra I T Q) (s : Side) (k : ℕ) where
-    pub tree-of-count : (ds : List (Node I T)) → Each k ds → count (tree-of q s ds) ≡ count-run ds
-    tree-of-count ds w = let t = tree-of-formed q s k ds w in count-is k (tree-of q s ds) (t .0) ∙ ap length (t .1) ∙ sym (count-run-is s k ds w)
-
-    module _ (ds : List (Node I T)) (m : Tree I T) (far : List (Node I T)) (u : Each k ds) (l : length ds ≤ 4) (w : Formed (suc k) m) (o : Digit k far) where
-      pub trim-formed : Formed k (trim q s ds m far (pop q s m))
-      trim-formed = trimmed q s k ds m far (pop q s m) u l w o (popped q s (suc k) m w) .0
-
-      pub trim-count : count (trim q s ds m far (pop q s m)) ≡ count-run ds + (count m + count-run far)
-      trim-count =
-          let t = trimmed q s k ds m far (pop q s m) u l w o (popped q s (suc k) m w) in
-          let a = count-is k (trim q s ds m far (pop q s m)) (t .0) ∙ ap length (t .1 .0) ∙ length-along s (run s ds) _ in
-          omega (arith, a, length-along s (items m) (run (other s) far), count-run-is s k ds u, count-is (suc k) m w, count-run-is (other s) k far (o .1 .1))
-
-      pub trim-levels : levels (trim q s ds m far (pop q s m)) ≤ suc (levels m)
-      trim-levels = elim (trimmed q s k ds m far (pop q s m) u l w o (popped q s (suc k) m w) .1 .1) [ inl e ↦ omega arith | inr e ↦ omega arith ]
-
   -- a tree before a finger, and then one after it
-  pub two-built : {h h₁ h₂ : List (Cell I T)} {f f₁ f₂ : FreeList} {c₁ c₂ k : ℕ} {l r : Root} {t u : Tree I T} (c x : ℕ) → Made-tree h h₁ f f₁ c₁ k l t → Formed k t → Made-tree h₁ h₂ f₁ f₂ c₂ k r u → Formed-node k (node h k x) → c₁ + c₂ ≤ c → Made-parts h h₂ f f₂ c k (record { left = l; finger = x; right = r }) (parts t (node h k x) u)
-  two-built {h} {h₁} {h₂} {f} {f₁} {f₂} {c₁} {c₂} {k} {l} {r} {t} {u} c x a w b v n =
+  pub two-built : {h h₁ h₂ : List (Cell I T)} {f f₁ f₂ : FreeList} {c₁ c₂ k : ℕ} {l r : Root} {t u : Tree I T} (c x i : ℕ) → Made-tree h h₁ f f₁ c₁ k l t → Formed k t → Made-tree h₁ h₂ f₁ f₂ c₂ k r u → Formed-node k (node h k x) → c₁ + c₂ ≤ c → Made-parts h h₂ f f₂ c k (record { left = l; finger = x; offset = i; right = r }) (parts t (node h k x) u i)
+  two-built {h} {h₁} {h₂} {f} {f₁} {f₂} {c₁} {c₂} {k} {l} {r} {t} {u} c x i a w b v n =
       let kept = keep-tree (b .grown .extends) (l .levels) k (l .at) (subst (Formed k) (sym (a .reads)) w) ∙ a .reads in
       let same = keep-node (extends-more (a .grown .extends) (b .grown .extends)) k x v in
       record { grown = grown-more c (a .grown) (b .grown) n; reads = rw (kept, same, b .reads) }

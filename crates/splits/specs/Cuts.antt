@@ -1,8 +1,6 @@
 -- What a cut of fingers gives. Assumes nothing.
 use mathlib.Core.List.{List}
-use mathlib.Core.Bool.{Bool}
 use Prim.Native.Nat.{ℕ}
-use Rattle.kinds.specs.Algebra.{Algebra}
 use Rattle.model.specs.Split.{cutting}
 use Rattle.model.specs.Split.{Cut as Cutting}
 use Rattle.cells.specs.Cells.{node, nodes}
@@ -10,8 +8,5 @@ use Rattle.cells.specs.declared.cell.Cell.{Cell}
 use Rattle.cells.specs.Fingers.{listed-some}
 use Rattle.splits.specs.declared.cut.Cut.{Cut}
 
-abbrev pub asked : {I T Q : Type 0} → Algebra I T Q → Q → T → Bool
-asked k question t = k .met t question
-
 abbrev pub cut-at : {I T : Type 0} → List (Cell I T) → ℕ → Cut → Cutting I T
-cut-at h k c = cutting (nodes h k (listed-some (c .before))) (node h k (c .finger)) (nodes h k (listed-some (c .after)))
+cut-at h k c = cutting (nodes h k (listed-some (c .before))) (node h k (c .finger)) (nodes h k (listed-some (c .after))) (c .offset)

@@ -1,11 +1,7 @@
 -- What a split gives. Assumes nothing.
 use mathlib.Core.Path.{_≡_}
-use mathlib.Core.Bool.{Bool, true, false}
 use mathlib.Core.List.{List}
 use Prim.Native.Nat.{ℕ}
-use Rattle.model.specs.Tree.{Tree, none, single, deep, torn, front}
-use Rattle.kinds.specs.Algebra.{Algebra}
-use Rattle.model.specs.Measures.{sum-run, sum}
 use Rattle.model.specs.Split.{Parts, parts}
 use Rattle.cells.specs.Cells.{node, tree}
 use Rattle.cells.specs.Chain.{Grown}
@@ -13,18 +9,9 @@ use Rattle.cells.specs.declared.cell.Cell.{Cell}
 use Rattle.cells.specs.declared.cell.FreeList.{FreeList}
 use Rattle.splits.specs.declared.split.Halves.{Halves}
 
--- a split that goes into a middle finds something there
-abbrev pub Lands : {I T Q : Type 0} → Algebra I T Q → (T → Bool) → T → Tree I T → Type 0
-Lands q ask acc none = ⊥
-Lands q ask acc (single x) = Unit {0}
-Lands q ask acc (deep t n f m b) =
-    let v = q .joined acc (sum-run q front f) in
-    ask v ≡ false → ask (q .joined v (sum q m)) ≡ true → Lands q ask v m
-Lands q ask acc torn = ⊥
-
 module _ {I T : Type 0} where
   abbrev pub parts-at : List (Cell I T) → ℕ → Halves → Parts I T
-  parts-at h k r = parts (tree h (r .left .levels) k (r .left .at)) (node h k (r .finger)) (tree h (r .right .levels) k (r .right .at))
+  parts-at h k r = parts (tree h (r .left .levels) k (r .left .at)) (node h k (r .finger)) (tree h (r .right .levels) k (r .right .at)) (r .offset)
 
   pub record Made-parts (h h′ : List (Cell I T)) (free free′ : FreeList) (cost k : ℕ) (r : Halves) (p : Parts I T) : Type 0 where
     pub grown : Grown h h′ free free′ cost

@@ -12,7 +12,7 @@ ghost use Rattle.cells.specs.Chain.{Sound};
 ghost use Rattle.cells.specs.Fingers.{listed};
 ghost use Rattle.cells.specs.Made.{Made-tree};
 ghost use Rattle.cells.specs.Fingers.{listed-some};
-ghost use Rattle.splits.specs.Cuts.{cut-at, asked};
+ghost use Rattle.splits.specs.Cuts.{cut-at};
 use cells::cell::Cell;
 use cells::cell::FreeList;
 use cells::cell::Root;
@@ -23,11 +23,13 @@ use cells::read::weigh;
 use ends::pop::tree_from;
 use kinds::Kind;
 
-// The fingers before a place, listed from the right, the finger at it, and those after it, listed from the left.
+// The fingers before one of them, listed from the right, that one, a position among its items, and the fingers after it,
+// listed from the left.
 #[derive(Clone, Copy)]
 pub struct Cut {
     pub before: Option<Digit>,
     pub finger: u32,
+    pub offset: u32,
     pub after: Option<Digit>,
 }
 
@@ -41,39 +43,37 @@ pub fn prepend_some(finger: u32, digit: Option<Digit>) -> Digit
     }
 }
 
-// Fingers listed from the left, cut at the first by which the question is met, or at the last. `before` is the total of what stands before them.
+// Fingers listed from the left, cut at the one that has the position. `passed` are those before them, listed from the
+// right.
 pub fn cut_digit<K: Kind>(
     cells: &[Cell<K::Item, K::Total>],
     level: u32,
-    question: K::Question,
-    before: K::Total,
+    position: u32,
     passed: Option<Digit>,
     digit: Digit,
 ) -> Cut
     requires few { ⌜ length (listed-some passed) + digit .count ≤ 4 ⌝ }
     requires formed { ⌜ Each level (nodes (now cells) level (listed digit)) ⌝ }
-    ensures { λ r. ⌜ cut-at (now (cells .entry)) level r ≡ cut-of (K·Kind .kind) (asked (K·Kind .kind) question) before (nodes (now (cells .entry)) level (listed-some passed)) (nodes (now (cells .entry)) level (listed digit)) ⌝ }
+    requires within { ⌜ position < count-run (nodes (now cells) level (listed digit)) ⌝ }
+    ensures { λ r. ⌜ cut-at (now (cells .entry)) level r ≡ cut-of position (nodes (now (cells .entry)) level (listed-some passed)) (nodes (now (cells .entry)) level (listed digit)) ⌝ }
 {
     let finger = digits::finger(digit, 0);
-    match digits::rest(digit) {
-        None => Cut {
+    let others = digits::rest(digit);
+    let weight = weigh::<K>(cells, level, finger);
+    if position < weight.items {
+        return Cut {
             before: passed,
             finger,
-            after: None,
-        },
-        Some(others) => {
-            let weight = weigh::<K>(cells, level, finger);
-            let next = K::join(before, weight.total);
-            if K::meets(next, question) {
-                return Cut {
-                    before: passed,
-                    finger,
-                    after: Some(others),
-                };
-            }
+            offset: position,
+            after: others,
+        };
+    }
+    match others {
+        Some(rest) => {
             let more = prepend_some(finger, passed);
-            cut_digit::<K>(cells, level, question, next, Some(more), others)
+            cut_digit::<K>(cells, level, position - weight.items, Some(more), rest)
         }
+        None => unreachable(),
     }
 }
 

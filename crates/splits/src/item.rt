@@ -2,57 +2,21 @@
 ghost use mathlib.Core.Path.{_≡_};
 ghost use Prim.Native.Nat.{ℕ, suc, _+_, _<_, _≤_, _^_};
 ghost use lib.ListN.{length, getD};
-ghost use Rattle.model.specs.Tree.{count-node, count-run, count, items-node, items};
-ghost use Rattle.model.specs.Forms.{Formed-node, Each, Formed};
-ghost use Rattle.cells.specs.Cells.{node, nodes, tree};
-ghost use Rattle.cells.specs.Fingers.{listed};
-ghost use Rattle.splits.specs.Items.{Found-in};
+ghost use Rattle.model.specs.Tree.{count-node, count, items-node, items};
+ghost use Rattle.model.specs.Forms.{Formed-node, Formed};
+ghost use Rattle.cells.specs.Cells.{node, tree};
+use super::cut::cut_digit;
 use cells::cell::Body;
 use cells::cell::Cell;
 use cells::cell::Root;
 use cells::cell::Side;
-use cells::digits;
 use cells::digits::reversed;
-use cells::fingers::Digit;
 use cells::read::fingers_of;
 use cells::read::view;
-use cells::read::weigh;
 use cells::read::weigh_run;
 use cells::read::weigh_tree;
 use cells::view::View;
 use kinds::Kind;
-
-// A finger, and a position among its items.
-#[derive(Clone, Copy)]
-pub struct Found {
-    pub finger: u32,
-    pub offset: u32,
-}
-
-// The finger that has the item at a position, of fingers listed from the left.
-pub fn find_finger<K: Kind>(
-    cells: &[Cell<K::Item, K::Total>],
-    level: u32,
-    digit: Digit,
-    position: u32,
-) -> Found
-    requires formed { ⌜ Each level (nodes (now cells) level (listed digit)) ⌝ }
-    requires within { ⌜ position < count-run (nodes (now cells) level (listed digit)) ⌝ }
-    ensures { λ r. ⌜ Found-in (now (cells .entry)) level (listed digit) position r ⌝ }
-{
-    let finger = digits::finger(digit, 0);
-    let weight = weigh::<K>(cells, level, finger);
-    if position < weight.items {
-        return Found {
-            finger,
-            offset: position,
-        };
-    }
-    match digits::rest(digit) {
-        Some(others) => find_finger::<K>(cells, level, others, position - weight.items),
-        None => unreachable(),
-    }
-}
 
 // The item at a position of a node.
 pub fn node_item<K: Kind>(
@@ -74,7 +38,7 @@ pub fn node_item<K: Kind>(
         };
     }
     let parts = fingers_of::<K>(cells, level - 1, Side::Front, at);
-    let found = find_finger::<K>(cells, level - 1, parts, position);
+    let found = cut_digit::<K>(cells, level - 1, position, None, parts);
     node_item::<K>(cells, level - 1, found.finger, found.offset)
 }
 
@@ -97,7 +61,7 @@ pub fn item_at<K: Kind>(
         View::Deep { near, middle, far } => {
             let first = weigh_run::<K>(cells, level, Side::Front, near);
             if position < first.items {
-                let found = find_finger::<K>(cells, level, near, position);
+                let found = cut_digit::<K>(cells, level, position, None, near);
                 return node_item::<K>(cells, level, found.finger, found.offset);
             }
             let after = position - first.items;
@@ -105,7 +69,7 @@ pub fn item_at<K: Kind>(
             if after < inner.items {
                 return item_at::<K>(cells, level + 1, middle, after);
             }
-            let last = find_finger::<K>(cells, level, reversed(far), after - inner.items);
+            let last = cut_digit::<K>(cells, level, after - inner.items, None, reversed(far));
             node_item::<K>(cells, level, last.finger, last.offset)
         }
     }

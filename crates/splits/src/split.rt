@@ -1,4 +1,4 @@
-// A tree in two, at the item by which a question is met.
+// A tree in two, at the item at a position.
 ghost use mathlib.Core.Path.{_≡_};
 ghost use Prim.Native.Nat.{ℕ, suc, _+_, _*_, _<_, _≤_, _^_};
 ghost use Rattle.model.specs.Tree.{count-node, count-run, count};
@@ -9,8 +9,8 @@ ghost use Rattle.cells.specs.Cells.{node, nodes, tree};
 ghost use Rattle.cells.specs.Chain.{Sound};
 ghost use Rattle.cells.specs.Fingers.{listed};
 ghost use Rattle.cells.specs.Fingers.{listed-some};
-ghost use Rattle.splits.specs.Cuts.{cut-at, asked};
-ghost use Rattle.splits.specs.Halves.{parts-at, Made-parts, Lands};
+ghost use Rattle.splits.specs.Cuts.{cut-at};
+ghost use Rattle.splits.specs.Halves.{parts-at, Made-parts};
 use super::cut::Cut;
 use super::cut::cut_digit;
 use super::cut::tree_some;
@@ -28,11 +28,12 @@ use cells::view::View;
 use ends::pop::trim;
 use kinds::Kind;
 
-// What stands before a finger, the finger, and what stands after it.
+// What stands before a finger, the finger, a position among its items, and what stands after it.
 #[derive(Clone, Copy)]
 pub struct Halves {
     pub left: Root,
     pub finger: u32,
+    pub offset: u32,
     pub right: Root,
 }
 
@@ -61,6 +62,7 @@ pub fn halve_front<K: Kind>(
     Halves {
         left,
         finger: cut.finger,
+        offset: cut.offset,
         right,
     }
 }
@@ -90,6 +92,7 @@ pub fn halve_back<K: Kind>(
     Halves {
         left,
         finger: cut.finger,
+        offset: cut.offset,
         right,
     }
 }
@@ -123,17 +126,16 @@ pub fn halve_middle<K: Kind>(
     Halves {
         left: before,
         finger: cut.finger,
+        offset: cut.offset,
         right: after,
     }
 }
 
-// The halves of a level whose middle is cut already: `halves` are the middle's, and `inside` is the total of what stands before it.
+// The halves of a level whose middle is cut already: `halves` are the middle's.
 pub fn halve_below<K: Kind>(
     cells: &mut [Cell<K::Item, K::Total>],
     free: &mut FreeList,
     level: u32,
-    question: K::Question,
-    inside: K::Total,
     front: Digit,
     halves: Halves,
     back: Digit,
@@ -144,15 +146,14 @@ pub fn halve_below<K: Kind>(
     requires front { ⌜ Each level (nodes (now cells) level (listed front)) ⌝ }
     requires left { ⌜ Formed (suc level) (tree (now cells) (halves .left .levels) (suc level) (halves .left .at)) ⌝ }
     requires here { ⌜ Formed-node (suc level) (node (now cells) (suc level) (halves .finger)) ⌝ }
+    requires within { ⌜ halves .offset < count-node (node (now cells) (suc level) (halves .finger)) ⌝ }
     requires right { ⌜ Formed (suc level) (tree (now cells) (halves .right .levels) (suc level) (halves .right .at)) ⌝ }
     requires back { ⌜ Each level (nodes (now cells) level (listed back)) ⌝ }
     requires fits { ⌜ count-run (nodes (now cells) level (listed front)) + (count (tree (now cells) (halves .left .levels) (suc level) (halves .left .at)) + (count-node (node (now cells) (suc level) (halves .finger)) + (count (tree (now cells) (halves .right .levels) (suc level) (halves .right .at)) + count-run (nodes (now cells) level (listed back))))) < 2 ^ 32 ⌝ }
-    ensures { λ r. ⌜ Made-parts (now (cells .entry)) (now (cells .exit)) (now (free .entry)) (now (free .exit)) (halves .left .levels + halves .right .levels + 2) level r (in-middle (K·Kind .kind) (asked (K·Kind .kind) question) inside (nodes (now (cells .entry)) level (listed front)) (nodes (now (cells .entry)) level (listed back)) (parts-at (now (cells .entry)) (suc level) halves)) ⌝ }
+    ensures { λ r. ⌜ Made-parts (now (cells .entry)) (now (cells .exit)) (now (free .entry)) (now (free .exit)) (halves .left .levels + halves .right .levels + 2) level r (in-middle (K·Kind .kind) (nodes (now (cells .entry)) level (listed front)) (nodes (now (cells .entry)) level (listed back)) (parts-at (now (cells .entry)) (suc level) halves)) ⌝ }
 {
-    let left = weigh_tree::<K>(cells, level + 1, halves.left);
-    let start = K::join(inside, left.total);
     let parts = fingers_of::<K>(cells, level, Side::Front, halves.finger);
-    let cut = cut_digit::<K>(cells, level, question, start, None, parts);
+    let cut = cut_digit::<K>(cells, level, halves.offset, None, parts);
     halve_middle::<K>(
         cells,
         free,
@@ -165,22 +166,21 @@ pub fn halve_below<K: Kind>(
     )
 }
 
-// A tree in two, at the item by which the question is met. `before` is the total of what stands before the tree.
+// A tree in two, at the item at a position.
 pub fn split<K: Kind>(
     cells: &mut [Cell<K::Item, K::Total>],
     free: &mut FreeList,
     level: u32,
-    question: K::Question,
-    before: K::Total,
     root: Root,
+    position: u32,
 ) -> Halves
     requires room { ⌜ root .levels * root .levels + root .levels ≤ now free .count ⌝ }
     requires sound { ⌜ Sound (now cells) (now free) ⌝ }
     requires shallow { ⌜ level + 2 * root .levels < 64 ⌝ }
     requires formed { ⌜ Formed level (tree (now cells) (root .levels) level (root .at)) ⌝ }
     requires fits { ⌜ count (tree (now cells) (root .levels) level (root .at)) < 2 ^ 32 ⌝ }
-    requires lands { ⌜ Lands (K·Kind .kind) (asked (K·Kind .kind) question) before (tree (now cells) (root .levels) level (root .at)) ⌝ }
-    ensures { λ r. ⌜ Made-parts (now (cells .entry)) (now (cells .exit)) (now (free .entry)) (now (free .exit)) (root .levels * root .levels + root .levels) level r (split-of (K·Kind .kind) (asked (K·Kind .kind) question) before (tree (now (cells .entry)) (root .levels) level (root .at))) ⌝ }
+    requires within { ⌜ position < count (tree (now cells) (root .levels) level (root .at)) ⌝ }
+    ensures { λ r. ⌜ Made-parts (now (cells .entry)) (now (cells .exit)) (now (free .entry)) (now (free .exit)) (root .levels * root .levels + root .levels) level r (split-of (K·Kind .kind) position (tree (now (cells .entry)) (root .levels) level (root .at))) ⌝ }
 {
     match view::<K>(cells, level, Side::Front, root) {
         View::Empty => unreachable(),
@@ -189,23 +189,23 @@ pub fn split<K: Kind>(
             Halves {
                 left: none,
                 finger,
+                offset: position,
                 right: none,
             }
         }
         View::Deep { near, middle, far } => {
             let first = weigh_run::<K>(cells, level, Side::Front, near);
-            let inside = K::join(before, first.total);
-            if K::meets(inside, question) {
-                let cut = cut_digit::<K>(cells, level, question, before, None, near);
+            if position < first.items {
+                let cut = cut_digit::<K>(cells, level, position, None, near);
                 return halve_front::<K>(cells, free, level, cut, middle, far);
             }
+            let after = position - first.items;
             let inner = weigh_tree::<K>(cells, level + 1, middle);
-            let past = K::join(inside, inner.total);
-            if K::meets(past, question) {
-                let halves = split::<K>(cells, free, level + 1, question, inside, middle);
-                return halve_below::<K>(cells, free, level, question, inside, near, halves, far);
+            if after < inner.items {
+                let halves = split::<K>(cells, free, level + 1, middle, after);
+                return halve_below::<K>(cells, free, level, near, halves, far);
             }
-            let cut = cut_digit::<K>(cells, level, question, past, None, reversed(far));
+            let cut = cut_digit::<K>(cells, level, after - inner.items, None, reversed(far));
             halve_back::<K>(cells, free, level, near, middle, cut)
         }
     }

@@ -6,7 +6,7 @@ use Rattle.model.specs.Forms.{Each}
 use Rattle.model.proofs.Popping.{fingers-formed}
 use Rattle.cells.specs.Cells.{end, node}
 use Rattle.ends.specs.Pops.{popped-of, Popped-well, popped-levels, count-popped}
-use Rattle.ends.proofs.Popping.{count-fingers}
+use Rattle.model.proofs.Popping.{count-fingers}
 use Rattle.ends.proofs.pop.refill.Needs as need
 
 pub deep-at-requires : need.deep-at-requires

@@ -6,6 +6,7 @@ use lib.ListN.{length, getD}
 use Rattle.cells.specs.Cells.{node, nodes}
 use Rattle.cells.specs.Fingers.{listed}
 use Rattle.cells.proofs.Opened.{node-within, read-body}
+use Rattle.splits.proofs.Cutting.{cut-known, cut-within, cut-item}
 use Rattle.splits.proofs.Finding.{only-item, item-there, node-down, parts-ready, parts-count, parts-items}
 use Rattle.splits.proofs.item.+node_item.Needs as need
 
@@ -30,15 +31,29 @@ fingers-of-parts-requires g t c κs =
     let step : suc (c .args .level - 1) ≡ c .args .level = omega (arith, c .if-level-eq0 .left) in
     node-down (c .args .cells .now) (c .args .level - 1) (c .args .level) (c .args .at) step (c .pre .formed)
 
-pub find-finger-found-requires : need.find-finger-found-requires
-find-finger-found-requires g t c κs =
+pub cut-digit-found-requires : need.cut-digit-found-requires
+cut-digit-found-requires g t c κs =
     let step : suc (c .args .level - 1) ≡ c .args .level = omega (arith, c .if-level-eq0 .left) in
     let n = parts-count (c .args .cells .now) (c .args .level - 1) (c .args .level) (c .args .at) step (c .pre .formed) _ (c .fingers-of-parts .ensures) in
-    record { formed = parts-ready (c .args .cells .now) (c .args .level - 1) (c .args .level) (c .args .at) step (c .pre .formed) _ (c .fingers-of-parts .ensures); within = omega (arith, n, c .pre .within) }
+    record {
+      few = omega (arith, c .fingers-of-parts .result .filled .1);
+      formed = parts-ready (c .args .cells .now) (c .args .level - 1) (c .args .level) (c .args .at) step (c .pre .formed) _ (c .fingers-of-parts .ensures);
+      within = omega (arith, n, c .pre .within);
+    }
+
+pub node-item-requires : need.node-item-requires
+node-item-requires g t c κs within =
+    let step : suc (c .args .level - 1) ≡ c .args .level = omega (arith, c .if-level-eq0 .left) in
+    let n = parts-count (c .args .cells .now) (c .args .level - 1) (c .args .level) (c .args .at) step (c .pre .formed) _ (c .fingers-of-parts .ensures) in
+    let v = parts-ready (c .args .cells .now) (c .args .level - 1) (c .args .level) (c .args .at) step (c .pre .formed) _ (c .fingers-of-parts .ensures) in
+    let less : c .args .level - 1 < c .args .level = omega arith in
+    (search needs, (within .0, (within .1 .0, (within .1 .1 .0, (within .1 .1 .1, (cut-known (c .args .cells .now) (c .args .level - 1) (c .args .position) (listed (c .fingers-of-parts .result)) v (omega (arith, n, c .pre .within)) (c .cut-digit-found .result) (c .cut-digit-found .ensures) .here, cut-within (c .args .cells .now) (c .args .level - 1) (c .args .position) (listed (c .fingers-of-parts .result)) v (omega (arith, n, c .pre .within)) (c .cut-digit-found .result) (c .cut-digit-found .ensures)))))))
 
 pub returns : need.returns
 returns g t c =
     let step : suc (c .args .level - 1) ≡ c .args .level = omega (arith, c .if-level-eq0 .left) in
     let r = c .node-item .result in
+    let n = parts-count (c .args .cells .now) (c .args .level - 1) (c .args .level) (c .args .at) step (c .pre .formed) _ (c .fingers-of-parts .ensures) in
+    let v = parts-ready (c .args .cells .now) (c .args .level - 1) (c .args .level) (c .args .at) step (c .pre .formed) _ (c .fingers-of-parts .ensures) in
     let xs = parts-items (c .args .cells .now) (c .args .level - 1) (c .args .level) (c .args .at) step (c .pre .formed) _ (c .fingers-of-parts .ensures) in
-    c .node-item .ensures ∙ c .find-finger-found .ensures .same r ∙ ap (λ xs. getD xs (c .args .position) r) xs
+    c .node-item .ensures ∙ cut-item (c .args .cells .now) (c .args .level - 1) (c .args .position) (listed (c .fingers-of-parts .result)) v (omega (arith, n, c .pre .within)) (c .cut-digit-found .result) (c .cut-digit-found .ensures) r ∙ ap (λ xs. getD xs (c .args .position) r) xs

@@ -28,4 +28,4 @@ trim-right-requires g c κs =
 pub returns : need.returns
 returns g c =
     let q = g .K·Kind .kind in
-    two-built (c .args .middle .levels + 2) (c .args .cut .finger) (c .tree-some-left .ensures) (tree-of-formed q back (c .args .level) (nodes (c .args .cells .now) (c .args .level) (listed-some (c .args .cut .before))) (c .pre .before) .0) (trim-kept (g .K·Kind .kind) front (c .tree-some-left .ensures .grown .extends) (c .args .level) (listed-some (c .args .cut .after)) (c .args .middle) (listed (c .args .back)) (c .pre .after) (c .pre .middle) (c .pre .back) (c .trim-right .ensures)) (c .pre .here) (omega arith)
+    two-built (c .args .middle .levels + 2) (c .args .cut .finger) (c .args .cut .offset) (c .tree-some-left .ensures) (tree-of-formed q back (c .args .level) (nodes (c .args .cells .now) (c .args .level) (listed-some (c .args .cut .before))) (c .pre .before) .0) (trim-kept (g .K·Kind .kind) front (c .tree-some-left .ensures .grown .extends) (c .args .level) (listed-some (c .args .cut .after)) (c .args .middle) (listed (c .args .back)) (c .pre .after) (c .pre .middle) (c .pre .back) (c .trim-right .ensures)) (c .pre .here) (omega arith)
