@@ -4,7 +4,7 @@ use Rattle.model.specs.Tree.{count-run}
 use Rattle.model.specs.Forms.{Each}
 use Rattle.cells.specs.Cells.{nodes}
 use Rattle.cells.specs.Fingers.{listed}
-use Rattle.places.specs.Replaced.{regroup}
+use Rattle.model.specs.Replace.{regroup}
 use Rattle.places.proofs.Placing.{two-listed, three-listed}
 use Rattle.places.proofs.replace.make_node.Needs as need
 
