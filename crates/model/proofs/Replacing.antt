@@ -6,15 +6,15 @@ use Prim.Native.Nat.{ℕ, zero, suc, _+_, _-_, _≤_, _<_}
 use native.Mathlib.Omega.{arith}
 use borrow.Author.Tests.{ltb-false}
 use lib.Dec.{ltb}
-use lib.ListN.{length, length-append, set}
+use lib.ListN.{length, set}
 use Rattle.std.proofs.shelf.Lists.{set-append-left, set-append-right}
 use Rattle.kinds.specs.Algebra.{Algebra, Laws}
-use Rattle.model.specs.Tree.{Node, leaf, two, three, gap, Tree, none, single, deep, torn, Side, front, back, items-node, run, items, count-node, count-run, count, levels}
+use Rattle.model.specs.Tree.{Node, leaf, two, three, gap, Tree, none, single, deep, torn, front, back, items-node, run, items, count-node, count-run, count, levels}
 use Rattle.model.specs.Ends.{make, fingers}
 use Rattle.model.specs.Append.{onto}
 use Rattle.model.specs.Split.{choose, Cut, cutting, cut}
 use Rattle.model.specs.Replace.{swap, regroup, replaced-node, replaced}
-use Rattle.model.specs.Forms.{Formed-node, Each, Digit, Formed}
+use Rattle.model.specs.Forms.{Formed-node, Each, Formed}
 use Rattle.model.specs.Statements.{Replaced-keeps, Replaced-measures}
 use Rattle.model.proofs.Forms.{decides-formed, count-node-is, count-run-is, count-is}
 use Rattle.model.proofs.Totals.{Weighed-node, Weighed-each, Weighed, sound, weighed, weighed-two, weighed-three, weighed-deep}

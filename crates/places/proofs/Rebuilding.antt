@@ -1,14 +1,14 @@
 -- That a replacement in cells is one. Assumes nothing.
 use mathlib.Core.Path.{_≡_, refl, sym, ap, _∙_, subst}
-use mathlib.Core.List.{List, [], _∷_, _++_}
+use mathlib.Core.List.{List, []}
 use mathlib.Core.Bool.{Bool, true, false}
-use Prim.Native.Nat.{ℕ, zero, suc, _+_, _-_, _*_, _<_, _≤_}
+use Prim.Native.Nat.{ℕ, suc, _+_, _-_, _<_, _≤_}
 use native.Mathlib.Omega.{arith}
 use borrow.Author.Tests.{lt-true, le-false}
 use lib.Dec.{ltb}
 use lib.ListN.{length, set}
 use Rattle.std.proofs.shelf.Lists.{length-set}
-use Rattle.model.specs.Tree.{Node, Tree, none, single, deep, torn, Side, front, back, items, count-node, count-run, count, levels}
+use Rattle.model.specs.Tree.{Node, Tree, single, front, items, count-node, count-run, count, levels}
 use Rattle.kinds.specs.Algebra.{Algebra}
 use Rattle.model.specs.Ends.{make}
 use Rattle.model.specs.Append.{onto}

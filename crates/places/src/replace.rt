@@ -1,7 +1,6 @@
 // A tree with another item at a position.
 ghost use mathlib.Core.Path.{_≡_};
-ghost use mathlib.Core.List.{List, [], _∷_};
-ghost use Prim.Native.Nat.{ℕ, suc, _+_, _*_, _<_, _≤_, _^_};
+ghost use Prim.Native.Nat.{suc, _+_, _*_, _<_, _≤_, _^_};
 ghost use lib.ListN.{length, set};
 ghost use Rattle.model.specs.Tree.{count-node, count-run, count, items};
 ghost use Rattle.model.specs.Replace.{swap, regroup, replaced-node};

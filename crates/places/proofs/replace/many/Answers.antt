@@ -1,4 +1,4 @@
-use mathlib.Core.Path.{_≡_, refl, sym, ap, _∙_}
+use mathlib.Core.Path.{sym, ap, _∙_}
 use lib.ListN.{length}
 use Rattle.cells.specs.Fingers.{listed-some}
 use Rattle.cells.proofs.Fours.{listed-length}

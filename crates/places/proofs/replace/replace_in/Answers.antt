@@ -1,7 +1,4 @@
-use mathlib.Core.Path.{_≡_, refl, sym, ap, _∙_, subst}
-use Prim.Native.Nat.{suc, _+_, _<_, _≤_}
 use native.Mathlib.Omega.{arith}
-use Rattle.cells.specs.Cells.{node, nodes}
 use Rattle.cells.specs.Fingers.{listed}
 use Rattle.splits.proofs.Cutting.{cut-known, cut-within}
 use Rattle.places.proofs.Placing.{cut-part, index-within, run-made}
