@@ -1,19 +1,20 @@
 -- One item in place of another. Assumes nothing.
 use mathlib.Core.Path.{_≡_, refl, sym, ap, _∙_}
-use mathlib.Core.Bool.{true}
+use mathlib.Core.Bool.{Bool, true, false}
 use mathlib.Core.List.{List, [], _∷_, _++_, append-nil}
 use Prim.Native.Nat.{ℕ, zero, suc, _+_, _-_, _≤_, _<_}
 use native.Mathlib.Omega.{arith}
+use borrow.Author.Tests.{ltb-false}
 use lib.Dec.{ltb}
-use lib.ListN.{length, length-append, set}
+use lib.ListN.{length, set}
 use Rattle.std.proofs.shelf.Lists.{set-append-left, set-append-right}
 use Rattle.kinds.specs.Algebra.{Algebra, Laws}
-use Rattle.model.specs.Tree.{Node, leaf, two, three, gap, Tree, none, single, deep, torn, Side, front, back, items-node, run, items, count-node, count-run, count, levels}
+use Rattle.model.specs.Tree.{Node, leaf, two, three, gap, Tree, none, single, deep, torn, front, back, items-node, run, items, count-node, count-run, count, levels}
 use Rattle.model.specs.Ends.{make, fingers}
 use Rattle.model.specs.Append.{onto}
-use Rattle.model.specs.Split.{choose}
+use Rattle.model.specs.Split.{choose, Cut, cutting, cut}
 use Rattle.model.specs.Replace.{swap, regroup, replaced-node, replaced}
-use Rattle.model.specs.Forms.{Formed-node, Each, Digit, Formed}
+use Rattle.model.specs.Forms.{Formed-node, Each, Formed}
 use Rattle.model.specs.Statements.{Replaced-keeps, Replaced-measures}
 use Rattle.model.proofs.Forms.{decides-formed, count-node-is, count-run-is, count-is}
 use Rattle.model.proofs.Totals.{Weighed-node, Weighed-each, Weighed, sound, weighed, weighed-two, weighed-three, weighed-deep}
@@ -28,6 +29,10 @@ onto-onto (x ∷ xs) ys zs = onto-onto xs (x ∷ ys) zs
 onto-twice : {A : Type 0} (xs : List A) → onto (onto xs []) [] ≡ xs
 onto-twice xs = onto-onto xs [] [] ∙ append-nil xs
 
+set-onto : {A : Type 0} (xs ys : List A) (i : ℕ) (y : A) → set (onto xs ys) (length xs + i) y ≡ onto xs (set ys i y)
+set-onto [] ys i y = let e : 0 + i ≡ i = omega arith in ap (λ n. set ys n y) e
+set-onto (x ∷ xs) ys i y = let e : suc (length xs) + i ≡ length xs + suc i = omega arith in ap (λ n. set (onto xs (x ∷ ys)) n y) e ∙ set-onto xs (x ∷ ys) (suc i) y
+
 module _ {A : Type 0} where
   set-first : (xs ys : List A) {zs : List A} (i : ℕ) (x : A) → i < length xs → zs ≡ set xs i x → zs ++ ys ≡ set (xs ++ ys) i x
   set-first xs ys i x l e = ap (λ r. r ++ ys) e ∙ sym (set-append-left xs ys i x l)
@@ -41,6 +46,19 @@ module _ {I T : Type 0} where
 
   run-turned : (xs : List (Node I T)) → run back (onto xs []) ≡ run front xs
   run-turned xs = sym (run-turned-back (onto xs [])) ∙ ap (run front) (onto-twice xs)
+
+  -- ds with the finger of the cut changed is es
+  abbrev pub Swapped-at : (ℕ → Node I T → Node I T) → List (Node I T) → List (Node I T) → Cut I T → Type 0
+  Swapped-at f ds es (cutting d x r o) = es ≡ set ds (length d) (f o x)
+
+  -- a swap is at the finger of a cut
+  pub swap-cut : (f : ℕ → Node I T → Node I T) (i : ℕ) (done ds : List (Node I T)) → i < count-run ds → Swapped-at f (onto done ds) (onto done (swap f i ds)) (cut i done ds)
+  swap-cut f i done [] l = absurd (omega arith)
+  swap-cut f i done (a ∷ more) l = go (ltb i (count-node a)) refl (swap-cut f (i - count-node a) (a ∷ done) more)
+    where
+      go : (y : Bool) → ltb i (count-node a) ≡ y → (i - count-node a < count-run more → Swapped-at f (onto done (a ∷ more)) (onto done (a ∷ swap f (i - count-node a) more)) (cut (i - count-node a) (a ∷ done) more)) → Swapped-at f (onto done (a ∷ more)) (onto done (choose y (f i a ∷ more) (a ∷ swap f (i - count-node a) more))) (choose y (cutting done a more i) (cut (i - count-node a) (a ∷ done) more))
+      go true e later = let z : length done ≡ length done + 0 = omega arith in sym (ap (λ n. set (onto done (a ∷ more)) n (f i a)) z ∙ set-onto done (a ∷ more) 0 (f i a))
+      go false e later = later (omega (arith, ltb-false i (count-node a) e))
 
   -- as many fingers, with x at the position i of their items
   abbrev pub Swapped : I → ℕ → ℕ → List (Node I T) → List (Node I T) → Type 0

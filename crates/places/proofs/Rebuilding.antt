@@ -1,20 +1,22 @@
 -- That a replacement in cells is one. Assumes nothing.
 use mathlib.Core.Path.{_≡_, refl, sym, ap, _∙_, subst}
-use mathlib.Core.List.{List, [], _∷_, _++_}
+use mathlib.Core.List.{List, []}
 use mathlib.Core.Bool.{Bool, true, false}
-use Prim.Native.Nat.{ℕ, zero, suc, _+_, _-_, _*_, _<_, _≤_}
+use Prim.Native.Nat.{ℕ, suc, _+_, _-_, _<_, _≤_}
 use native.Mathlib.Omega.{arith}
 use borrow.Author.Tests.{lt-true, le-false}
 use lib.Dec.{ltb}
 use lib.ListN.{length, set}
 use Rattle.std.proofs.shelf.Lists.{length-set}
-use Rattle.model.specs.Tree.{Node, Tree, none, single, deep, torn, Side, front, back, items, count-node, count-run, count, levels}
+use Rattle.model.specs.Tree.{Node, Tree, single, front, items, count-node, count-run, count, levels}
 use Rattle.kinds.specs.Algebra.{Algebra}
 use Rattle.model.specs.Ends.{make}
 use Rattle.model.specs.Append.{onto}
 use Rattle.model.specs.Split.{choose}
+use Rattle.model.specs.Replace.{swap, replaced-node, replaced}
 use Rattle.model.specs.Forms.{Formed-node, Each, Formed}
 use Rattle.model.proofs.Forms.{count-is}
+use Rattle.model.proofs.Replacing.{replaced-well, node-keeps}
 use Rattle.cells.specs.Cells.{node, nodes, tree}
 use Rattle.cells.specs.Chain.{Grown}
 use Rattle.cells.specs.Fingers.{listed}
@@ -27,8 +29,6 @@ use Rattle.cells.proofs.Frames.{keep-nodes, keep-tree, grown-more}
 use Rattle.cells.proofs.Opened.{levels-read}
 use Rattle.cells.specs.Made.{Made-run}
 use Rattle.splits.proofs.Finding.{nodes-onto}
-use Rattle.places.specs.Replaced.{swap, replaced-node, replaced}
-use Rattle.places.proofs.Replacing.{replaced-keeps, node-keeps}
 
 -- the parts of a level that is built anew
 pub record Rebuilt {I T : Type 0} {Q : Type 0} (q : Algebra I T Q) (x : I) (h : List (Cell I T)) (k : ℕ) (root : Root) (i : ℕ) (h₁ : List (Cell I T)) (f f₁ : FreeList) (c : ℕ) (ps : List ℕ) (o : Root) (qs : List ℕ) : Type 0 where
@@ -52,11 +52,11 @@ module _ {I T Q : Type 0} (q : Algebra I T Q) (x : I) (h : List (Cell I T)) (k :
 
   module _ (w : Formed k (tree h (root .levels) k (root .at))) (l : i < count (tree h (root .levels) k (root .at))) where
     pub made-items : {h₁ : List (Cell I T)} {f f₁ : FreeList} {c : ℕ} (o : Root) → Made-tree h h₁ f f₁ c k o (replaced q x k i (tree h (root .levels) k (root .at))) → items (tree h₁ (o .levels) k (o .at)) ≡ set (items (tree h (root .levels) k (root .at))) i x
-    made-items o u = ap items (u .reads) ∙ replaced-keeps q x k i (tree h (root .levels) k (root .at)) w l .1 .0
+    made-items o u = ap items (u .reads) ∙ replaced-well q x k i (tree h (root .levels) k (root .at)) w l .1 .0
 
     rebuilt : {h₁ : List (Cell I T)} {f f₁ : FreeList} {c : ℕ} (ps : List ℕ) (o : Root) (qs : List ℕ) (F : List (Node I T)) (M : Tree I T) (B : List (Node I T)) → Grown h h₁ f f₁ c → make q F M B ≡ replaced q x k i (tree h (root .levels) k (root .at)) → nodes h₁ k ps ≡ F → tree h₁ (o .levels) (suc k) (o .at) ≡ M → nodes h₁ k qs ≡ B → Rebuilt q x h k root i h₁ f f₁ c ps o qs
     rebuilt {h₁} ps o qs F M B g e a b d =
-        let t = replaced-keeps q x k i (tree h (root .levels) k (root .at)) w l in
+        let t = replaced-well q x k i (tree h (root .levels) k (root .at)) w l in
         let v : Formed k (make q F M B) = subst (Formed k) (sym e) (t .0) in
         let m : Formed (suc k) (tree h₁ (o .levels) (suc k) (o .at)) = subst (Formed (suc k)) (sym b) (v .1 .1 .0) in
         let n = count-is k (make q F M B) v ∙ ap items-long (e) ∙ ap length (t .1 .0) ∙ length-set (items (tree h (root .levels) k (root .at))) i x ∙ sym (count-is k (tree h (root .levels) k (root .at)) w) in

@@ -1,17 +1,16 @@
 // A tree with another item at a position.
 ghost use mathlib.Core.Path.{_≡_};
-ghost use mathlib.Core.List.{List, [], _∷_};
-ghost use Prim.Native.Nat.{ℕ, suc, _+_, _*_, _<_, _≤_, _^_};
+ghost use Prim.Native.Nat.{suc, _+_, _*_, _<_, _≤_, _^_};
 ghost use lib.ListN.{length, set};
 ghost use Rattle.model.specs.Tree.{count-node, count-run, count, items};
+ghost use Rattle.model.specs.Replace.{swap, regroup, replaced-node};
+ghost use Rattle.model.specs.Replace.{replaced as replaced-tree};
 ghost use Rattle.model.specs.Forms.{Formed-node, Each, Formed};
 ghost use Rattle.cells.specs.Cells.{node, nodes, tree};
 ghost use Rattle.cells.specs.Chain.{Sound};
-ghost use Rattle.cells.specs.Fingers.{listed};
+ghost use Rattle.cells.specs.Fingers.{listed, listed-some};
 ghost use Rattle.cells.specs.Made.{Made-node, Made-tree};
 ghost use Rattle.cells.specs.Made.{Made-run};
-ghost use Rattle.places.specs.Replaced.{Placed, swap, regroup, replaced-node, Replaced-keeps};
-ghost use Rattle.places.specs.Replaced.{replaced as replaced-tree};
 use cells::build::make_deep;
 use cells::build::make_single;
 use cells::build::make_three;
@@ -21,62 +20,24 @@ use cells::cell::Cell;
 use cells::cell::FreeList;
 use cells::cell::Root;
 use cells::cell::Side;
-use cells::digits;
 use cells::digits::reversed;
 use cells::fingers::Digit;
 use cells::free::take_cell;
 use cells::read::fingers_of;
 use cells::read::view;
-use cells::read::weigh;
 use cells::read::weigh_run;
 use cells::read::weigh_tree;
 use cells::view::View;
 use kinds::Kind;
+use splits::cut::cut_digit;
 
-pub fn replacement_keeps<I, T>() -> u8
-    ensures { λ _. ⌜ Replaced-keeps I T ⌝ }
+// How many fingers there are.
+pub fn many(digit: Option<Digit>) -> u8
+    ensures { λ r. ⌜ r ≡ length (listed-some digit) ⌝ }
 {
-    0
-}
-
-// A finger, which one it is, and a position among its items.
-#[derive(Clone, Copy)]
-pub struct Place {
-    pub index: u8,
-    pub finger: u32,
-    pub offset: u32,
-}
-
-// The finger that has the item at a position, of fingers listed from the left.
-pub fn find_place<K: Kind>(
-    cells: &[Cell<K::Item, K::Total>],
-    level: u32,
-    digit: Digit,
-    position: u32,
-) -> Place
-    requires formed { ⌜ Each level (nodes (now cells) level (listed digit)) ⌝ }
-    requires within { ⌜ position < count-run (nodes (now cells) level (listed digit)) ⌝ }
-    ensures { λ r. ⌜ Placed (now (cells .entry)) level (listed digit) position r ⌝ }
-{
-    let finger = digits::finger(digit, 0);
-    let weight = weigh::<K>(cells, level, finger);
-    if position < weight.items {
-        return Place {
-            index: 0,
-            finger,
-            offset: position,
-        };
-    }
-    match digits::rest(digit) {
-        Some(others) => {
-            let place = find_place::<K>(cells, level, others, position - weight.items);
-            Place {
-                index: place.index + 1,
-                finger: place.finger,
-                offset: place.offset,
-            }
-        }
-        None => unreachable(),
+    match digit {
+        Some(fingers) => fingers.count,
+        None => 0,
     }
 }
 
@@ -153,9 +114,9 @@ pub fn replace_node<K: Kind>(
         return take_cell(cells, free, Body::Item { item });
     }
     let parts = fingers_of::<K>(cells, level - 1, Side::Front, at);
-    let place = find_place::<K>(cells, level - 1, parts, position);
-    let below = replace_node::<K>(cells, free, level - 1, place.finger, place.offset, item);
-    let changed = with_finger(parts, place.index, below);
+    let cut = cut_digit::<K>(cells, level - 1, position, None, parts);
+    let below = replace_node::<K>(cells, free, level - 1, cut.finger, cut.offset, item);
+    let changed = with_finger(parts, many(cut.before), below);
     make_node::<K>(cells, free, level - 1, changed)
 }
 
@@ -175,9 +136,9 @@ pub fn replace_in<K: Kind>(
     requires within { ⌜ position < count-run (nodes (now cells) level (listed digit)) ⌝ }
     ensures { λ r. ⌜ Made-run (now (cells .entry)) (now (cells .exit)) (now (free .entry)) (now (free .exit)) (level + 1) level (listed r) (swap (replaced-node (K·Kind .kind) item level) position (nodes (now (cells .entry)) level (listed digit))) ⌝ }
 {
-    let place = find_place::<K>(cells, level, digit, position);
-    let finger = replace_node::<K>(cells, free, level, place.finger, place.offset, item);
-    with_finger(digit, place.index, finger)
+    let cut = cut_digit::<K>(cells, level, position, None, digit);
+    let finger = replace_node::<K>(cells, free, level, cut.finger, cut.offset, item);
+    with_finger(digit, many(cut.before), finger)
 }
 
 // A tree with another item at a position.

@@ -5,12 +5,12 @@ use Prim.Native.Nat.{ℕ, _+_, _-_, _<_, _≤_}
 use native.Mathlib.Omega.{arith}
 use borrow.Author.Tests.{lt-true, le-false}
 use lib.Dec.{ltb}
-use lib.ListN.{length, length-append, getD}
+use lib.ListN.{length, getD}
 use Rattle.std.specs.Options.{Cases as BySome}
 use Rattle.std.specs.declared.option.Option.{Option}
 use Rattle.std.specs.declared.option.Option.the-variants.{Some, None}
 use Rattle.std.proofs.shelf.Lists.{getD-append-left, getD-append-add}
-use Rattle.model.specs.Tree.{Node, front, back, run, items-node, count-node, count-run}
+use Rattle.model.specs.Tree.{front, back, run, items-node, count-node, count-run}
 use Rattle.model.specs.Split.{choose, Cut, cutting, cut}
 use Rattle.model.specs.Forms.{Each}
 use Rattle.model.proofs.Forms.{count-node-is, count-run-is}

@@ -7,13 +7,12 @@ use native.Mathlib.Nat.{suc-mul}
 use native.Mathlib.Omega.{arith}
 use borrow.Author.Tests.{lt-true, le-false}
 use lib.Dec.{ltb}
-use lib.ListN.{length}
-use Rattle.model.specs.Tree.{Node, Tree, single, deep, front, items, count-node, count-run, count, levels}
+use Rattle.model.specs.Tree.{Tree, single, front, items, count-node, count-run, count, levels}
 use Rattle.kinds.specs.Algebra.{Algebra}
 use Rattle.model.specs.Ends.{fingers}
 use Rattle.model.specs.Append.{onto}
 use Rattle.model.specs.Split.{choose, cut, Parts, parts, in-front, in-back, in-node, in-middle, split}
-use Rattle.model.specs.Forms.{Each, Formed}
+use Rattle.model.specs.Forms.{Each}
 use Rattle.model.proofs.Forms.{count-node-is, count-is}
 use Rattle.model.proofs.Splitting.{Parts-well, Well-parted, parts-counts, split-well}
 use Rattle.cells.specs.Cells.{node, nodes, tree}

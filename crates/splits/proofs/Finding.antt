@@ -1,11 +1,11 @@
 -- Where the item at a position is. Assumes nothing.
 use mathlib.Core.Path.{_≡_, refl, sym, ap, _∙_, subst}
 use mathlib.Core.List.{List, [], _∷_, _++_, append-nil}
-use Prim.Native.Nat.{ℕ, zero, suc, _+_, _-_, _<_, _≤_}
+use Prim.Native.Nat.{ℕ, suc, _-_, _<_, _≤_}
 use native.Mathlib.Omega.{arith}
 use lib.ListN.{length, getD}
 use Rattle.std.proofs.shelf.Lists.{getD-append-left, getD-append-right}
-use Rattle.model.specs.Tree.{Node, leaf, two, three, gap, Tree, Side, front, back, run, items-node, items, count-node, count-run, count}
+use Rattle.model.specs.Tree.{front, back, run, items-node, items, count-node, count-run, count}
 use Rattle.model.specs.Ends.{fingers}
 use Rattle.model.specs.Forms.{Formed-node, Each}
 use Rattle.model.proofs.Forms.{count-node-is, count-run-is, count-is}

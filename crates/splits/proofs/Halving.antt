@@ -1,9 +1,8 @@
 -- What the halves of a tree are made of. Assumes nothing.
-use mathlib.Core.Path.{_≡_, refl, sym, ap, _∙_, subst}
+use mathlib.Core.Path.{_≡_, sym, ap, _∙_, subst}
 use mathlib.Core.List.{List}
 use Prim.Native.Nat.{ℕ, suc, _+_, _≤_}
 use native.Mathlib.Omega.{arith}
-use lib.ListN.{length}
 use Rattle.std.proofs.shelf.Lists.{length-map}
 use Rattle.model.specs.Tree.{Tree, Side, count-run, count}
 use Rattle.kinds.specs.Algebra.{Algebra}
@@ -20,7 +19,7 @@ use Rattle.cells.specs.declared.cell.FreeList.{FreeList}
 use Rattle.cells.specs.declared.fingers.Digit.{Digit as Filled}
 use Rattle.cells.proofs.Fours.{listed-length}
 use Rattle.cells.proofs.Frames.{keep-node, keep-nodes, keep-tree, extends-more, grown-more}
-use Rattle.splits.specs.Halves.{parts-at, Made-parts}
+use Rattle.splits.specs.Halves.{Made-parts}
 
 module _ {I T : Type 0} where
   pub digit-of : (h : List (Cell I T)) (k : ℕ) (d : Filled) → Each k (nodes h k (listed d)) → Digit k (nodes h k (listed d))

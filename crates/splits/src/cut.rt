@@ -1,13 +1,13 @@
 // The cutting of fingers in two.
 ghost use mathlib.Core.Path.{_≡_};
 ghost use mathlib.Core.List.{_∷_};
-ghost use Prim.Native.Nat.{ℕ, suc, _+_, _*_, _<_, _≤_, _^_};
+ghost use Prim.Native.Nat.{_+_, _<_, _≤_, _^_};
 ghost use lib.ListN.{length};
 ghost use Rattle.model.specs.Tree.{count-run};
 ghost use Rattle.model.specs.Ends.{tree-of};
 ghost use Rattle.model.specs.Split.{cut as cut-of};
 ghost use Rattle.model.specs.Forms.{Each};
-ghost use Rattle.cells.specs.Cells.{end, node, nodes};
+ghost use Rattle.cells.specs.Cells.{end, nodes};
 ghost use Rattle.cells.specs.Chain.{Sound};
 ghost use Rattle.cells.specs.Fingers.{listed};
 ghost use Rattle.cells.specs.Made.{Made-tree};

@@ -1,7 +1,7 @@
 // The item at a position.
 ghost use mathlib.Core.Path.{_≡_};
-ghost use Prim.Native.Nat.{ℕ, suc, _+_, _<_, _≤_, _^_};
-ghost use lib.ListN.{length, getD};
+ghost use Prim.Native.Nat.{_+_, _<_, _^_};
+ghost use lib.ListN.{getD};
 ghost use Rattle.model.specs.Tree.{count-node, count, items-node, items};
 ghost use Rattle.model.specs.Forms.{Formed-node, Formed};
 ghost use Rattle.cells.specs.Cells.{node, tree};

@@ -1,6 +1,5 @@
 // A tree in two, at the item at a position.
-ghost use mathlib.Core.Path.{_≡_};
-ghost use Prim.Native.Nat.{ℕ, suc, _+_, _*_, _<_, _≤_, _^_};
+ghost use Prim.Native.Nat.{suc, _+_, _*_, _<_, _≤_, _^_};
 ghost use Rattle.model.specs.Tree.{count-node, count-run, count};
 ghost use Rattle.model.specs.Split.{in-front, in-back, in-node, in-middle};
 ghost use Rattle.model.specs.Split.{split as split-of};

@@ -1,10 +1,9 @@
-use mathlib.Core.Path.{_≡_, refl, sym, ap, _∙_, subst}
+use mathlib.Core.Path.{sym, ap, _∙_, subst}
 use native.Mathlib.Omega.{arith}
 use Rattle.model.specs.Tree.{count-run}
 use Rattle.model.specs.Forms.{Each}
 use Rattle.cells.specs.Cells.{nodes}
-use Rattle.cells.specs.Fingers.{listed}
-use Rattle.places.specs.Replaced.{regroup}
+use Rattle.model.specs.Replace.{regroup}
 use Rattle.places.proofs.Placing.{two-listed, three-listed}
 use Rattle.places.proofs.replace.make_node.Needs as need
 

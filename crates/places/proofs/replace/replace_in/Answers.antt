@@ -1,19 +1,23 @@
-use mathlib.Core.Path.{_≡_, refl, sym, ap, _∙_, subst}
-use Prim.Native.Nat.{suc, _+_, _<_, _≤_}
 use native.Mathlib.Omega.{arith}
-use Rattle.cells.specs.Cells.{node, nodes}
 use Rattle.cells.specs.Fingers.{listed}
-use Rattle.places.proofs.Placing.{run-made}
+use Rattle.splits.proofs.Cutting.{cut-known, cut-within}
+use Rattle.places.proofs.Placing.{cut-part, index-within, run-made}
 use Rattle.places.proofs.replace.replace_in.Needs as need
+
+pub cut-digit-cut-requires : need.cut-digit-cut-requires
+cut-digit-cut-requires g c κs = record { few = omega (arith, c .args .digit .filled .1); formed = c .pre .formed; within = c .pre .within }
 
 pub replace-node-finger-requires : need.replace-node-finger-requires
 replace-node-finger-requires g c κs = record {
   room = c .pre .room;
   sound = c .pre .sound;
-  formed = c .find-place-place .ensures .formed;
-  fits = omega (arith, c .find-place-place .ensures .part, c .pre .fits);
-  within = c .find-place-place .ensures .within;
+  formed = cut-known (c .args .cells .now) (c .args .level) (c .args .position) (listed (c .args .digit)) (c .pre .formed) (c .pre .within) (c .cut-digit-cut .result) (c .cut-digit-cut .ensures) .here;
+  fits = omega (arith, cut-part (g .K·Kind .kind) (c .args .item) (c .args .cells .now) (c .args .level) (listed (c .args .digit)) (c .pre .formed) (c .args .position) (c .pre .within) (c .cut-digit-cut .result) (c .cut-digit-cut .ensures), c .pre .fits);
+  within = cut-within (c .args .cells .now) (c .args .level) (c .args .position) (listed (c .args .digit)) (c .pre .formed) (c .pre .within) (c .cut-digit-cut .result) (c .cut-digit-cut .ensures);
 }
 
+pub with-finger-requires : need.with-finger-requires
+with-finger-requires g c κs = omega (arith, index-within (g .K·Kind .kind) (c .args .item) (c .args .cells .now) (c .args .level) (listed (c .args .digit)) (c .pre .formed) (c .args .position) (c .pre .within) (c .cut-digit-cut .result) (c .cut-digit-cut .ensures), c .many .ensures)
+
 pub returns : need.returns
-returns g c = run-made (g .K·Kind .kind) (c .args .item) (c .args .cells .now) (c .args .level) (listed (c .args .digit)) (c .pre .formed) (c .args .position) (c .pre .within) (c .find-place-place .result) (c .find-place-place .ensures) (c .replace-node-finger .result) (c .replace-node-finger .ensures) (listed (c .with-finger .result)) (c .with-finger .ensures)
+returns g c = run-made (g .K·Kind .kind) (c .args .item) (c .args .cells .now) (c .args .level) (listed (c .args .digit)) (c .pre .formed) (c .args .position) (c .pre .within) (c .cut-digit-cut .result) (c .cut-digit-cut .ensures) (c .replace-node-finger .result) (c .replace-node-finger .ensures) (c .many .result) (c .many .ensures) (listed (c .with-finger .result)) (c .with-finger .ensures)

@@ -1,11 +1,10 @@
-use mathlib.Core.Path.{_≡_, refl, sym, ap, _∙_, subst}
-use Prim.Native.Nat.{suc, _+_, _-_, _<_, _≤_}
+use mathlib.Core.Path.{_≡_, sym, ap, _∙_, subst}
+use Prim.Native.Nat.{suc, _+_, _-_, _<_}
 use native.Mathlib.Omega.{arith}
 use borrow.Author.Needs.{needs}
-use lib.ListN.{length, getD}
-use Rattle.model.specs.Tree.{count, count-run}
+use Rattle.model.specs.Tree.{count}
 use Rattle.model.specs.Forms.{Formed}
-use Rattle.cells.specs.Cells.{node, nodes, tree}
+use Rattle.cells.specs.Cells.{tree}
 use Rattle.cells.specs.Fingers.{listed}
 use Rattle.splits.proofs.Cutting.{cut-known, cut-within, cut-item}
 use Rattle.splits.proofs.Finding.{at-front, at-middle, at-back, back-ready, back-count}

@@ -1,9 +1,8 @@
-use mathlib.Core.Path.{_≡_, refl, sym, ap, _∙_, subst}
-use Prim.Native.Nat.{suc, _+_, _-_, _<_, _≤_}
+use mathlib.Core.Path.{_≡_, sym, ap, _∙_}
+use Prim.Native.Nat.{suc, _-_, _<_}
 use native.Mathlib.Omega.{arith}
 use borrow.Author.Needs.{needs}
-use lib.ListN.{length, getD}
-use Rattle.cells.specs.Cells.{node, nodes}
+use lib.ListN.{getD}
 use Rattle.cells.specs.Fingers.{listed}
 use Rattle.cells.proofs.Opened.{node-within, read-body}
 use Rattle.splits.proofs.Cutting.{cut-known, cut-within, cut-item}

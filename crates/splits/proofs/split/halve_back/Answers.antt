@@ -1,5 +1,5 @@
-use mathlib.Core.Path.{_≡_, refl, sym, ap, _∙_, subst}
-use Prim.Native.Nat.{suc, _+_, _<_, _≤_}
+use mathlib.Core.Path.{ap}
+use Prim.Native.Nat.{suc, _+_}
 use native.Mathlib.Omega.{arith}
 use Rattle.model.specs.Tree.{count-run, front, back}
 use Rattle.model.proofs.Splitting.{trim-well}

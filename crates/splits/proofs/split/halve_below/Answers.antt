@@ -1,5 +1,5 @@
-use mathlib.Core.Path.{_≡_, refl}
-use Prim.Native.Nat.{suc, _+_, _<_, _≤_}
+use mathlib.Core.Path.{refl}
+use Prim.Native.Nat.{suc, _+_}
 use native.Mathlib.Omega.{arith}
 use Rattle.cells.specs.Fingers.{listed}
 use Rattle.splits.proofs.Cutting.{cut-known, cut-sums}

@@ -1,14 +1,10 @@
-use mathlib.Core.Path.{_≡_, refl, sym, ap, _∙_, subst}
-use Prim.Native.Nat.{suc, _+_, _<_, _≤_}
+use Prim.Native.Nat.{_+_}
 use native.Mathlib.Omega.{arith}
-use Rattle.model.specs.Tree.{count-run, front, back}
+use Rattle.model.specs.Tree.{front, back}
 use Rattle.model.proofs.Popping.{tree-of-formed}
-use Rattle.cells.specs.Cells.{nodes, tree}
+use Rattle.cells.specs.Cells.{nodes}
 use Rattle.cells.specs.Fingers.{listed}
-use Rattle.cells.proofs.Frames.{keep-nodes}
 use Rattle.cells.specs.Fingers.{listed-some}
-use Rattle.cells.proofs.Fours.{some-length}
-use Rattle.std.proofs.shelf.Lists.{length-map}
 use Rattle.splits.proofs.Halving.{two-built, near-ready, middle-ready, far-ready, level-count, trim-kept}
 use Rattle.splits.proofs.split.halve_front.Needs as need
 

@@ -1,11 +1,9 @@
-use mathlib.Core.Path.{_≡_, refl, sym, ap, _∙_, subst}
-use Prim.Native.Nat.{suc, _+_, _<_, _≤_}
+use Prim.Native.Nat.{suc, _+_}
 use native.Mathlib.Omega.{arith}
-use Rattle.model.specs.Tree.{count-run, front, back}
+use Rattle.model.specs.Tree.{front, back}
 use Rattle.model.proofs.Splitting.{trim-well}
 use Rattle.cells.specs.Cells.{nodes, tree}
 use Rattle.cells.specs.Fingers.{listed}
-use Rattle.cells.proofs.Frames.{keep-nodes}
 use Rattle.cells.specs.Fingers.{listed-some}
 use Rattle.cells.proofs.Fours.{some-length}
 use Rattle.std.proofs.shelf.Lists.{length-map}
