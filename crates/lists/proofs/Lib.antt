@@ -1,3 +1,4 @@
 pub mod Roots
 pub mod Pushes
 pub mod Joins
+pub mod Parting

@@ -13,6 +13,7 @@ use Rattle.cells.specs.Chain.{Grown}
 use Rattle.cells.specs.declared.cell.Cell.{Cell}
 use Rattle.cells.specs.declared.cell.FreeList.{FreeList}
 use Rattle.cells.specs.declared.cell.Root.{Root}
+use Rattle.lists.specs.declared.halves.Halves.{Halves}
 use Rattle.lists.specs.declared.taken.Taken.{Taken}
 
 module _ {I T : Type 0} where
@@ -37,6 +38,15 @@ module _ {I T : Type 0} where
     pub stays : (old : Root) → Whole h old → tree-at h′ old ≡ tree-at h old
     pub whole : Whole h′ r
     pub list : list-at h′ r ≡ xs
+
+  -- The same of two roots at once.
+  pub record Made-two (h h′ : List (Cell I T)) (free free′ : FreeList) (cost : ℕ) (r : Halves) (xs ys : List I) : Type 0 where
+    pub grown : Grown h h′ free free′ cost
+    pub stays : (old : Root) → Whole h old → tree-at h′ old ≡ tree-at h old
+    pub left-whole : Whole h′ (r .left)
+    pub left-list : list-at h′ (r .left) ≡ xs
+    pub right-whole : Whole h′ (r .right)
+    pub right-list : list-at h′ (r .right) ≡ ys
 
   -- What a take at a side gives of the list xs: nothing of the empty one alone, else the item there, and the others.
   pub record Took (h h′ : List (Cell I T)) (free free′ : FreeList) (cost : ℕ) (side : Side) (xs : List I) (item : I) (r : Root) : Type 0 where

@@ -2,11 +2,16 @@
 //
 // Each function takes the lent cells and their free list. Cells in use are never written, so that every other root
 // reads as before; a result shares what it can with its sources.
+mod cuts;
+mod halves;
 mod joining;
 mod reads;
 mod sides;
 mod taken;
 
+pub use cuts::item;
+pub use cuts::split_at;
+pub use halves::Halves;
 pub use joining::join;
 pub use reads::length;
 pub use reads::total;
