@@ -5,8 +5,10 @@ use mathlib.Core.List.{List, [], _∷_}
 use Prim.Native.Nat.{ℕ, _+_, _*_}
 use Rattle.std.specs.declared.option.Option.{Option}
 use Rattle.std.specs.declared.option.Option.the-variants.{Some, None}
+use lib.ListN.{length, take, drop}
 use Rattle.kinds.specs.Algebra.{Algebra}
 use Rattle.model.specs.Tree.{Tree, Side, along, formed, items}
+use Rattle.model.specs.Seek.{Sought, missed, found, seek}
 use Rattle.model.specs.Statements.{Sound}
 use Rattle.cells.specs.Cells.{tree}
 use Rattle.cells.specs.Chain.{Grown}
@@ -15,6 +17,11 @@ use Rattle.cells.specs.declared.cell.FreeList.{FreeList}
 use Rattle.cells.specs.declared.cell.Root.{Root}
 use Rattle.lists.specs.declared.halves.Halves.{Halves}
 use Rattle.lists.specs.declared.taken.Taken.{Taken}
+
+-- Where a list is cut by what was sought: at its end where nothing was found.
+abbrev pub place-of : {T : Type 0} → ℕ → Sought T → ℕ
+place-of n missed = n
+place-of n (found j t) = j
 
 module _ {I T : Type 0} where
   -- The tree that a root stands for, and its items from left to right.
@@ -62,3 +69,12 @@ module _ {I T : Type 0} where
   abbrev pub Given-right : {Q : Type 0} → Algebra I T Q → List (Cell I T) → Option (Taken I) → Type 0
   Given-right k h None = Unit {0}
   Given-right k h (Some t) = Right k h (t .rest) × (k .admitted (t .item) ≡ true)
+
+  -- A list in two somewhere, and where totals are right, at the item by which the question is first met: all before it, and the rest.
+  abbrev pub cut-place : {Q : Type 0} → Algebra I T Q → Q → List I → ℕ
+  cut-place k q xs = place-of (length xs) (seek k q xs)
+
+  pub record Parted-by {Q : Type 0} (k : Algebra I T Q) (h h′ : List (Cell I T)) (free free′ : FreeList) (cost : ℕ) (q : Q) (root : Root) (r : Halves) : Type 0 where
+    pub at : ℕ
+    pub made : Made-two h h′ free free′ cost r (take at (list-at h root)) (drop at (list-at h root))
+    pub place : Right k h root → at ≡ cut-place k q (list-at h root)
