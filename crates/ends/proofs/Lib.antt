@@ -1,0 +1,3 @@
+pub mod Counting
+pub mod Pushing
+pub mod Popping

@@ -1,0 +1,4 @@
+pub mod Rows
+pub mod Runs
+pub mod Grouping
+pub mod Joining

@@ -1,0 +1,5 @@
+pub mod Roots
+pub mod Pushes
+pub mod Joins
+pub mod Parting
+pub mod Meeting

@@ -1,0 +1,10 @@
+pub mod Tree
+pub mod Measures
+pub mod Ends
+pub mod Statements
+pub mod Append
+pub mod Split
+pub mod Forms
+pub mod Seek
+pub mod Replace
+pub mod Levels

@@ -1,0 +1,4 @@
+pub mod Meeting
+pub mod Spotting
+pub mod Levels
+pub mod Answering
