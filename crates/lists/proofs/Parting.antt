@@ -2,7 +2,6 @@
 use mathlib.Core.Path.{_≡_, refl, sym, ap, ap₂, _∙_, subst}
 use mathlib.Core.List.{List, [], _∷_}
 use Prim.Native.Nat.{ℕ, zero, suc, _+_, _-_, _*_, _^_, _≤_, _<_}
-use native.Mathlib.Nat.{mul-le-mul}
 use native.Mathlib.Omega.{arith}
 use lib.ListN.{length, getD, take, drop, length-drop}
 use lib.Seq.{drop-cons}
@@ -15,8 +14,8 @@ use Rattle.model.specs.Levels.{most-levels}
 use Rattle.model.specs.Measures.{Admitted}
 use Rattle.model.specs.Statements.{Sound, Parted, Split-at, Sound-parts}
 use Rattle.model.proofs.Forms.{decides-formed, count-is}
-use Rattle.model.proofs.Doubling.{most-is-largest}
 use Rattle.model.proofs.Pushing.{push-formed, push-items, push-measures}
+use Rattle.model.proofs.Rooms.{Pushes, split-pushes}
 use Rattle.model.proofs.Splitting.{split-keeps, split-measures}
 use Rattle.cells.specs.Cells.{node, tree}
 use Rattle.cells.specs.Made.{Made-tree}
@@ -29,15 +28,7 @@ use Rattle.ends.proofs.Pushing.{made-levels}
 use Rattle.splits.specs.Halves.{parts-at, Made-parts}
 use Rattle.splits.specs.declared.split.Halves.{Halves as Parted-cells}
 use Rattle.lists.specs.Lists.{tree-at, list-at, Whole, Right, Made-two}
-use Rattle.lists.proofs.Roots.{formed-at, low-at, low-levels, shallow, whole-from, stays-from}
-
--- more items have no fewer levels
-pub most-mono : (m n : ℕ) → m ≤ n → most-levels m ≤ most-levels n
-most-mono m n less = go (most-levels m) refl
-  where
-    go : (d : ℕ) → most-levels m ≡ d → d ≤ most-levels n
-    go zero e = omega arith
-    go (suc d) e = most-is-largest n .1 d (omega (arith, most-is-largest m .0 d e))
+use Rattle.lists.proofs.Roots.{formed-at, low-at, shallow, whole-from, stays-from}
 
 -- what stands between two parts is an item
 leafed : {I T : Type 0} (d : ℕ) (t : Tree I T) (j : ℕ) (l : Tree I T) (x : Node I T) (r : Tree I T) (o : ℕ) → Split-at d t j (parts l x r o) → (i : I) × (x ≡ leaf i) × Parted d t j l i r
@@ -47,20 +38,11 @@ leafed d t j l (three y n a b c) r o w = elim w [ ]
 leafed d t j l gap r o w = elim w [ ]
 
 module _ {I T Q : Type 0} (k : Algebra I T Q) (h : List (Cell I T)) (root : Root) (w : Whole h root) (fits : length (list-at h root) < 2 ^ 32) where
-  abbrev most : ℕ
-  most = most-levels (length (list-at h root))
-
-  pub root-low : root .levels ≤ most
+  pub root-low : root .levels ≤ most-levels (length (list-at h root))
   root-low = low-at h root w
 
   pub root-shallow : 2 * root .levels < 64
   root-shallow = omega (arith, root-low, shallow (length (list-at h root)) fits)
-
-  squares : root .levels * root .levels ≤ most * most
-  squares = mul-le-mul root-low root-low
-
-  pub split-room : (n : ℕ) → most * most + 3 * most ≤ n → root .levels * root .levels + root .levels ≤ n
-  split-room n l = omega (arith, squares, root-low)
 
   module _ (j : ℕ) (within : j < length (list-at h root)) {h₁ : List (Cell I T)} {f f₁ : FreeList} (o : Parted-cells) (u : Made-parts h h₁ f f₁ (root .levels * root .levels + root .levels) 0 o (split k j (tree-at h root))) where
     well : Split-at (root .levels) (tree-at h root) j (parts-at h₁ 0 o)
@@ -94,11 +76,13 @@ module _ {I T Q : Type 0} (k : Algebra I T Q) (h : List (Cell I T)) (root : Root
         ∙ rw (found .1) (ap (λ ys. found .0 ∷ ys) (parted .right))
         ∙ sym (rest ∙ ap (λ y. y ∷ drop (suc j) (list-at h root)) (parted .item (found .0)))
 
-    depth : levels pushed ≤ most
-    depth = omega (arith, low-levels pushed formed, ap (λ xs. most-levels (length xs)) list, most-mono (length (drop j (list-at h root))) (length (list-at h root)) (simp length-drop (omega arith)))
+    depth : levels pushed ≤ root .levels
+    depth =
+        let p = subst (Pushes k (levels (tree-at h root))) (sym (u .reads)) (split-pushes k 0 j (tree-at h root) (formed-at h root w) within) in
+        omega (arith, p, levels-read h (root .levels) 0 (root .at) (formed-at h root w))
 
-    pub push-room : most * most + 3 * most ≤ f .count → 2 * levels pushed ≤ f₁ .count + 1
-    push-room l = omega (arith, depth, squares, root-low, u .grown .spent)
+    pub push-room : root .levels * root .levels + 3 * root .levels ≤ f .count → 2 * levels pushed ≤ f₁ .count + 1
+    push-room l = omega (arith, depth, u .grown .spent)
 
     pub right-shallow : o .right .levels < 64
     right-shallow = omega (arith, levels-read h₁ (o .right .levels) 0 (o .right .at) right-ready, parted .right-levels, root-shallow)
@@ -111,10 +95,10 @@ module _ {I T Q : Type 0} (k : Algebra I T Q) (h : List (Cell I T)) (root : Root
       left-kept : tree-at h₂ (o .left) ≡ tree-at h₁ (o .left)
       left-kept = keep-tree (v .grown .extends) (o .left .levels) 0 (o .left .at) left-ready
 
-      pub parted-made : Made-two h h₂ f f₂ (most * most + 3 * most) (record { left = o .left; right = r }) (take j (list-at h root)) (drop j (list-at h root))
+      pub parted-made : Made-two h h₂ f f₂ (root .levels * root .levels + 3 * root .levels) (record { left = o .left; right = r }) (take j (list-at h root)) (drop j (list-at h root))
       parted-made =
           record {
-            grown = grown-more (most * most + 3 * most) (u .grown) (v .grown) (omega (arith, squares, root-low, depth, made-levels v formed));
+            grown = grown-more (root .levels * root .levels + 3 * root .levels) (u .grown) (v .grown) (omega (arith, depth, made-levels v formed));
             stays = stays-from (extends-more (u .grown .extends) (v .grown .extends));
             left-whole = whole-from h₂ (o .left) (subst (Formed 0) (sym left-kept) left-ready);
             left-list = ap items left-kept ∙ parted .left;

@@ -2,7 +2,6 @@
 ghost use mathlib.Core.Path.{_≡_};
 ghost use Prim.Native.Nat.{_+_, _*_, _<_, _≤_, _^_};
 ghost use lib.ListN.{length};
-ghost use Rattle.model.specs.Levels.{most-levels};
 ghost use Rattle.model.specs.Seek.{seek as first-met};
 ghost use Rattle.cells.specs.Chain.{Sound};
 ghost use Rattle.seeks.specs.Sought.{sought, Inside};
@@ -30,18 +29,19 @@ pub fn seek<K: Kind>(
     seeks::seek::seek::<K>(cells, question, root)
 }
 
-/// The items before the one by which the question is first met, and the rest; all and none where it is not met.
+/// The items before the one by which the question is first met, and the rest; all and none where it is not met. It takes the
+/// cells of a split at a position.
 pub fn split_by<K: Kind>(
     cells: &mut [Cell<K::Item, K::Total>],
     free: &mut FreeList,
     root: Root,
     question: K::Question,
 ) -> Halves
-    requires room { ⌜ most-levels (length (list-at (now cells) root)) * most-levels (length (list-at (now cells) root)) + 3 * most-levels (length (list-at (now cells) root)) ≤ now free .count ⌝ }
+    requires room { ⌜ root .levels * root .levels + 3 * root .levels ≤ now free .count ⌝ }
     requires sound { ⌜ Sound (now cells) (now free) ⌝ }
     requires whole { ⌜ Whole (now cells) root ⌝ }
     requires fits { ⌜ length (list-at (now cells) root) < 2 ^ 32 ⌝ }
-    ensures parted { λ r. ⌜ Parted-by (K·Kind .kind) (now (cells .entry)) (now (cells .exit)) (now (free .entry)) (now (free .exit)) (most-levels (length (list-at (now (cells .entry)) root)) * most-levels (length (list-at (now (cells .entry)) root)) + 3 * most-levels (length (list-at (now (cells .entry)) root))) question root r ⌝ }
+    ensures parted { λ r. ⌜ Parted-by (K·Kind .kind) (now (cells .entry)) (now (cells .exit)) (now (free .entry)) (now (free .exit)) (root .levels * root .levels + 3 * root .levels) question root r ⌝ }
     ensures right { λ r. ⌜ (Right (K·Kind .kind) (now (cells .entry)) root → Right (K·Kind .kind) (now (cells .exit)) (r .left) × Right (K·Kind .kind) (now (cells .exit)) (r .right)) ⌝ }
 {
     match seek::<K>(cells, root, question) {

@@ -1,13 +1,13 @@
 use native.Mathlib.Omega.{arith}
 use Rattle.lists.proofs.Roots.{formed-at, count-at}
-use Rattle.lists.proofs.Parting.{root-shallow, split-room, finger-ready, right-ready, push-room, right-shallow, push-fits, parted-made, parted-right}
+use Rattle.lists.proofs.Parting.{root-shallow, finger-ready, right-ready, push-room, right-shallow, push-fits, parted-made, parted-right}
 use Rattle.lists.proofs.cuts.split_at.Needs as need
 
 pub split-halves-requires : need.split-halves-requires
 split-halves-requires g c κs =
     let n = count-at (c .args .cells .now) (c .args .root) (c .pre .whole) in
     record {
-      room = split-room (g .K·Kind .kind) (c .args .cells .now) (c .args .root) (c .pre .whole) (c .pre .fits) _ (c .pre .room);
+      room = omega (arith, c .pre .room);
       sound = c .pre .sound;
       shallow = omega (arith, root-shallow (g .K·Kind .kind) (c .args .cells .now) (c .args .root) (c .pre .whole) (c .pre .fits));
       formed = formed-at (c .args .cells .now) (c .args .root) (c .pre .whole);
