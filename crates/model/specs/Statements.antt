@@ -35,7 +35,7 @@ Popped-well d s t (got gap rest) = ⊥
 abbrev pub Sound : {I T Q : Type 0} → Algebra I T Q → Tree I T → Type 0
 Sound k t = Measured k t × Admitted k (items t)
 
--- t, of at most d levels, in parts at its item j: l is what stands before, and r what stands after
+-- t in parts at its item j: l is what stands before, and r what stands after; neither has more than d levels
 pub record Parted {I T : Type 0} (d : ℕ) (t : Tree I T) (j : ℕ) (l : Tree I T) (x : I) (r : Tree I T) : Type 0 where
   pub left : items l ≡ take j (items t)
   pub item : (o : I) → getD (items t) j o ≡ x
