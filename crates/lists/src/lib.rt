@@ -3,19 +3,19 @@
 // Each function takes the lent cells and their free list. Cells in use are never written, so that every other root
 // reads as before; a result shares what it can with its sources.
 mod changes;
-mod cuts;
 mod halves;
 mod joining;
+mod positions;
 mod reads;
 mod seeking;
 mod sides;
 mod taken;
 
 pub use changes::replace;
-pub use cuts::item;
-pub use cuts::split_at;
 pub use halves::Halves;
 pub use joining::join;
+pub use positions::item;
+pub use positions::split_at;
 pub use reads::length;
 pub use reads::total;
 pub use seeking::seek;

@@ -22,9 +22,9 @@ use Rattle.cells.specs.declared.cell.FreeList.{FreeList}
 use Rattle.cells.specs.declared.cell.Body.the-variants.{Item}
 use Rattle.cells.specs.declared.fingers.Digit.{Digit as Filled}
 use Rattle.cells.proofs.Frames.{keep-nodes, grown-more, grown-most}
-use Rattle.splits.specs.Cuts.{cut-at}
-use Rattle.splits.specs.declared.cut.Cut.{Cut as Cutting}
-use Rattle.splits.proofs.Cutting.{cut-known, cut-sums}
+use Rattle.cuts.specs.Cuts.{cut-at}
+use Rattle.cuts.specs.declared.cut.Cut.{Cut as Cutting}
+use Rattle.cuts.proofs.Cutting.{cut-known, cut-sums}
 
 -- four, of which one is set
 pub set-0 : (n a b c d x : ℕ) → take n (x ∷ b ∷ c ∷ d ∷ []) ≡ set (take n (a ∷ b ∷ c ∷ d ∷ [])) 0 x

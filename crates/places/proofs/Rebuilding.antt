@@ -28,7 +28,7 @@ use Rattle.cells.specs.declared.fingers.Digit.{Digit as Filled}
 use Rattle.cells.proofs.Frames.{keep-nodes, keep-tree, grown-more}
 use Rattle.cells.proofs.Opened.{levels-read}
 use Rattle.cells.specs.Made.{Made-run}
-use Rattle.splits.proofs.Finding.{nodes-onto}
+use Rattle.cuts.proofs.Finding.{nodes-onto}
 
 -- the parts of a level that is built anew
 pub record Rebuilt {I T : Type 0} {Q : Type 0} (q : Algebra I T Q) (x : I) (h : List (Cell I T)) (k : ℕ) (root : Root) (i : ℕ) (h₁ : List (Cell I T)) (f f₁ : FreeList) (c : ℕ) (ps : List ℕ) (o : Root) (qs : List ℕ) : Type 0 where

@@ -28,8 +28,8 @@ use cells::read::view;
 use cells::read::weigh_run;
 use cells::read::weigh_tree;
 use cells::view::View;
+use cuts::cut::cut_digit;
 use kinds::Kind;
-use splits::cut::cut_digit;
 
 // How many fingers there are.
 pub fn many(digit: Option<Digit>) -> u8

@@ -26,11 +26,11 @@ use Rattle.cells.specs.declared.fingers.Digit.{Digit as Filled}
 use Rattle.cells.proofs.Frames.{keep-nodes, grown-more, grown-most}
 use Rattle.cells.proofs.Opened.{levels-read, tree-none}
 use Rattle.ends.proofs.Popping.{grown-none}
-use Rattle.splits.specs.Cuts.{cut-at}
-use Rattle.splits.specs.declared.cut.Cut.{Cut as Cutting}
+use Rattle.cuts.specs.Cuts.{cut-at}
+use Rattle.cuts.specs.declared.cut.Cut.{Cut as Cutting}
 use Rattle.splits.specs.Halves.{parts-at, Made-parts}
 use Rattle.splits.specs.declared.split.Halves.{Halves}
-use Rattle.splits.proofs.Finding.{nodes-onto}
+use Rattle.cuts.proofs.Finding.{nodes-onto}
 
 pub squares : (e d : ℕ) → suc e ≡ d → d * d + d ≡ (e * e + e) + (2 * e + 2)
 squares e d s = subst (λ d. d * d + d ≡ (e * e + e) + (2 * e + 2)) s (omega (arith, suc-mul e e))

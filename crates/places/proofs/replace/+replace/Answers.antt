@@ -6,7 +6,7 @@ use Rattle.model.specs.Tree.{count, count-node}
 use Rattle.model.specs.Forms.{Formed}
 use Rattle.cells.specs.Cells.{node, nodes, tree}
 use Rattle.cells.specs.Fingers.{listed}
-use Rattle.splits.proofs.Finding.{back-ready, back-count}
+use Rattle.cuts.proofs.Finding.{back-ready, back-count}
 use Rattle.places.proofs.Rebuilding.{made-items, rebuilt-made, single-made, single-ready, rebuilt-front, rebuilt-middle, rebuilt-back}
 use Rattle.places.proofs.replace.+replace.Needs as need
 

@@ -6,8 +6,8 @@ use Rattle.model.specs.Tree.{count-run}
 use Rattle.cells.specs.Cells.{node, nodes}
 use Rattle.cells.specs.Fingers.{listed}
 use Rattle.cells.proofs.Fours.{listed-length}
-use Rattle.splits.proofs.Finding.{node-down, parts-ready, parts-count}
-use Rattle.splits.proofs.Cutting.{cut-known, cut-within}
+use Rattle.cuts.proofs.Finding.{node-down, parts-ready, parts-count}
+use Rattle.cuts.proofs.Cutting.{cut-known, cut-within}
 use Rattle.places.proofs.Placing.{cut-part, index-within, leaf-made, swapped-ready, swapped-count, swapped-few, node-made}
 use Rattle.places.proofs.replace.+replace_node.Needs as need
 

@@ -1,6 +1,6 @@
 use native.Mathlib.Omega.{arith}
 use Rattle.cells.specs.Fingers.{listed}
-use Rattle.splits.proofs.Cutting.{cut-known, cut-within}
+use Rattle.cuts.proofs.Cutting.{cut-known, cut-within}
 use Rattle.places.proofs.Placing.{cut-part, index-within, run-made}
 use Rattle.places.proofs.replace.replace_in.Needs as need
 

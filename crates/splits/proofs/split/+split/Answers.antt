@@ -6,8 +6,8 @@ use Rattle.model.specs.Tree.{count}
 use Rattle.model.specs.Forms.{Formed}
 use Rattle.cells.specs.Cells.{tree}
 use Rattle.cells.specs.Fingers.{listed}
-use Rattle.splits.proofs.Cutting.{cut-known, cut-sums}
-use Rattle.splits.proofs.Finding.{back-ready, back-count}
+use Rattle.cuts.proofs.Cutting.{cut-known, cut-sums}
+use Rattle.cuts.proofs.Finding.{back-ready, back-count}
 use Rattle.splits.proofs.Descending.{squares, single-done, front-done, back-done, inner, inner-within, left-levels, right-levels, near-ready, far-ready, inner-fits, middle-done}
 use Rattle.splits.proofs.split.+split.Needs as need
 

@@ -2,8 +2,8 @@ use mathlib.Core.Path.{refl}
 use Prim.Native.Nat.{suc, _+_}
 use native.Mathlib.Omega.{arith}
 use Rattle.cells.specs.Fingers.{listed}
-use Rattle.splits.proofs.Cutting.{cut-known, cut-sums}
-use Rattle.splits.proofs.Finding.{parts-ready, parts-count}
+use Rattle.cuts.proofs.Cutting.{cut-known, cut-sums}
+use Rattle.cuts.proofs.Finding.{parts-ready, parts-count}
 use Rattle.splits.proofs.Descending.{parts-as, middle-is}
 use Rattle.splits.proofs.split.halve_below.Needs as need
 

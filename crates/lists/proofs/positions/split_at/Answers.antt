@@ -1,7 +1,7 @@
 use native.Mathlib.Omega.{arith}
 use Rattle.lists.proofs.Roots.{formed-at, count-at}
 use Rattle.lists.proofs.Parting.{root-shallow, finger-ready, right-ready, push-room, right-shallow, push-fits, parted-made, parted-right}
-use Rattle.lists.proofs.cuts.split_at.Needs as need
+use Rattle.lists.proofs.positions.split_at.Needs as need
 
 pub split-halves-requires : need.split-halves-requires
 split-halves-requires g c κs =

@@ -1,7 +1,7 @@
 use native.Mathlib.Omega.{arith}
 use Rattle.lists.proofs.Roots.{formed-at, count-at}
 use Rattle.lists.proofs.Parting.{root-shallow}
-use Rattle.lists.proofs.cuts.item.Needs as need
+use Rattle.lists.proofs.positions.item.Needs as need
 
 pub item-at-requires : need.item-at-requires
 item-at-requires g c κs =

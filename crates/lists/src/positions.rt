@@ -18,7 +18,7 @@ pub fn item<K: Kind>(cells: &[Cell<K::Item, K::Total>], root: Root, position: u3
     requires within { ⌜ position < length (list-at (now cells) root) ⌝ }
     ensures { λ r. ⌜ r ≡ getD (list-at (now (cells .entry)) root) position r ⌝ }
 {
-    splits::item::item_at::<K>(cells, 0, root, position)
+    cuts::item::item_at::<K>(cells, 0, root, position)
 }
 
 /// The items before a position, and the rest: at most d · d + 3 · d cells for d levels.

@@ -6,9 +6,9 @@ use Rattle.model.specs.Tree.{count}
 use Rattle.model.specs.Forms.{Formed}
 use Rattle.cells.specs.Cells.{tree}
 use Rattle.cells.specs.Fingers.{listed}
-use Rattle.splits.proofs.Cutting.{cut-known, cut-within, cut-item}
-use Rattle.splits.proofs.Finding.{at-front, at-middle, at-back, back-ready, back-count}
-use Rattle.splits.proofs.item.+item_at.Needs as need
+use Rattle.cuts.proofs.Cutting.{cut-known, cut-within, cut-item}
+use Rattle.cuts.proofs.Finding.{at-front, at-middle, at-back, back-ready, back-count}
+use Rattle.cuts.proofs.item.+item_at.Needs as need
 
 pub unreachable-requires : need.unreachable-requires
 unreachable-requires g t c κs = omega (arith, ap count (c .in-Empty .ensures tt .0), c .pre .within)

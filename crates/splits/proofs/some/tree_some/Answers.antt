@@ -4,7 +4,7 @@ use Rattle.cells.specs.Cells.{end, nodes, tree}
 use Rattle.cells.proofs.Opened.{tree-none}
 use Rattle.cells.specs.Fingers.{listed-some}
 use Rattle.ends.proofs.Popping.{grown-none}
-use Rattle.splits.proofs.cut.tree_some.Needs as need
+use Rattle.splits.proofs.some.tree_some.Needs as need
 
 pub returns-in-None : need.returns-in-None
 returns-in-None g c = record {

@@ -5,9 +5,9 @@ use borrow.Author.Needs.{needs}
 use lib.ListN.{getD}
 use Rattle.cells.specs.Fingers.{listed}
 use Rattle.cells.proofs.Opened.{node-within, read-body}
-use Rattle.splits.proofs.Cutting.{cut-known, cut-within, cut-item}
-use Rattle.splits.proofs.Finding.{only-item, item-there, node-down, parts-ready, parts-count, parts-items}
-use Rattle.splits.proofs.item.+node_item.Needs as need
+use Rattle.cuts.proofs.Cutting.{cut-known, cut-within, cut-item}
+use Rattle.cuts.proofs.Finding.{only-item, item-there, node-down, parts-ready, parts-count, parts-items}
+use Rattle.cuts.proofs.item.+node_item.Needs as need
 
 pub offset-cells-at : need.offset-cells-at
 offset-cells-at g t c = let l = node-within _ _ _ (c .pre .formed) (g .K·Kind .kind) in search needs

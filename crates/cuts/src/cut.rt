@@ -1,26 +1,19 @@
 // The cutting of fingers in two.
 ghost use mathlib.Core.Path.{_≡_};
 ghost use mathlib.Core.List.{_∷_};
-ghost use Prim.Native.Nat.{_+_, _<_, _≤_, _^_};
+ghost use Prim.Native.Nat.{_+_, _<_, _≤_};
 ghost use lib.ListN.{length};
 ghost use Rattle.model.specs.Tree.{count-run};
-ghost use Rattle.model.specs.Ends.{tree-of};
 ghost use Rattle.model.specs.Split.{cut as cut-of};
 ghost use Rattle.model.specs.Forms.{Each};
 ghost use Rattle.cells.specs.Cells.{end, nodes};
-ghost use Rattle.cells.specs.Chain.{Sound};
 ghost use Rattle.cells.specs.Fingers.{listed};
-ghost use Rattle.cells.specs.Made.{Made-tree};
 ghost use Rattle.cells.specs.Fingers.{listed-some};
-ghost use Rattle.splits.specs.Cuts.{cut-at};
+ghost use Rattle.cuts.specs.Cuts.{cut-at};
 use cells::cell::Cell;
-use cells::cell::FreeList;
-use cells::cell::Root;
-use cells::cell::Side;
 use cells::digits;
 use cells::fingers::Digit;
 use cells::read::weigh;
-use ends::pop::tree_from;
 use kinds::Kind;
 
 // The fingers before one of them, listed from the right, that one, a position among its items, and the fingers after it,
@@ -74,26 +67,5 @@ pub fn cut_digit<K: Kind>(
             cut_digit::<K>(cells, level, position - weight.items, Some(more), rest)
         }
         None => unreachable(),
-    }
-}
-
-// Fingers listed from the side, or none, as a tree.
-pub fn tree_some<K: Kind>(
-    cells: &mut [Cell<K::Item, K::Total>],
-    free: &mut FreeList,
-    level: u32,
-    side: Side,
-    run: Option<Digit>,
-) -> Root
-    requires room { ⌜ 0 < now free .count ⌝ }
-    requires sound { ⌜ Sound (now cells) (now free) ⌝ }
-    requires shallow { ⌜ level < 64 ⌝ }
-    requires formed { ⌜ Each level (nodes (now cells) level (listed-some run)) ⌝ }
-    requires fits { ⌜ count-run (nodes (now cells) level (listed-some run)) < 2 ^ 32 ⌝ }
-    ensures { λ r. ⌜ Made-tree (now (cells .entry)) (now (cells .exit)) (now (free .entry)) (now (free .exit)) 1 level r (tree-of (K·Kind .kind) (end side) (nodes (now (cells .entry)) level (listed-some run))) ⌝ }
-{
-    match run {
-        None => Root { levels: 0, at: 0 },
-        Some(digit) => tree_from::<K>(cells, free, level, side, digit),
     }
 }

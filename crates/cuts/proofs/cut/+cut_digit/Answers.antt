@@ -9,8 +9,8 @@ use Rattle.cells.specs.Cells.{node}
 use Rattle.cells.specs.Fingers.{listed, listed-some}
 use Rattle.cells.proofs.Fours.{listed-length}
 use Rattle.cells.proofs.Opened.{each-first}
-use Rattle.splits.proofs.Cutting.{after-first, others-ready, others-count, cut-here, cut-later}
-use Rattle.splits.proofs.cut.+cut_digit.Needs as need
+use Rattle.cuts.proofs.Cutting.{after-first, others-ready, others-count, cut-here, cut-later}
+use Rattle.cuts.proofs.cut.+cut_digit.Needs as need
 
 pub weigh-weight-requires : need.weigh-weight-requires
 weigh-weight-requires g t c κs =

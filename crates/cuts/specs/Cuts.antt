@@ -6,7 +6,7 @@ use Rattle.model.specs.Split.{Cut as Cutting}
 use Rattle.cells.specs.Cells.{node, nodes}
 use Rattle.cells.specs.declared.cell.Cell.{Cell}
 use Rattle.cells.specs.Fingers.{listed-some}
-use Rattle.splits.specs.declared.cut.Cut.{Cut}
+use Rattle.cuts.specs.declared.cut.Cut.{Cut}
 
 abbrev pub cut-at : {I T : Type 0} → List (Cell I T) → ℕ → Cut → Cutting I T
 cut-at h k c = cutting (nodes h k (listed-some (c .before))) (node h k (c .finger)) (nodes h k (listed-some (c .after))) (c .offset)

@@ -19,8 +19,8 @@ use Rattle.cells.specs.Cells.{node, nodes}
 use Rattle.cells.specs.Fingers.{listed, listed-some}
 use Rattle.cells.specs.declared.cell.Cell.{Cell}
 use Rattle.cells.specs.declared.fingers.Digit.{Digit as Filled}
-use Rattle.splits.specs.Cuts.{cut-at}
-use Rattle.splits.specs.declared.cut.Cut.{Cut as Cutting}
+use Rattle.cuts.specs.Cuts.{cut-at}
+use Rattle.cuts.specs.declared.cut.Cut.{Cut as Cutting}
 
 -- the fingers after the first, if there are any
 pub after-first : (ps : List ℕ) (x : ℕ) (o : Option Filled) → BySome o (ps ≡ x ∷ []) (λ d. ps ≡ x ∷ listed d) → ps ≡ x ∷ listed-some o
