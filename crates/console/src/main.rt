@@ -2,6 +2,8 @@
 //
 // For each it prints the line and then, in plain words, what it did. A refusal or a slip is told in the same way, and
 // the script goes on. The run ends early only where standard input or output fails, or memory.
+#![tactic(auto)]
+
 mod command;
 mod files;
 mod hex;

@@ -3,6 +3,8 @@
 // A kind names its item, its total and its question, and the most items that one list of it may hold. A list's total
 // is what its items' totals come to, joined from left to right; a question asks of a total whether it is met.
 // Everything above is written once, for every kind that keeps the laws.
+#![tactic(auto)]
+
 ghost use Rattle.std.specs.Prelude.{◌≡◌};
 ghost use Rattle.kinds.specs.Algebra.{Algebra, Laws};
 

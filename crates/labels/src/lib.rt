@@ -2,6 +2,8 @@
 //
 // A target's label is one more than the number of targets that come before it: the nearer ones, and those as near that
 // stand earlier in the list. The memory that labels are written to is the caller's.
+#![tactic(auto)]
+
 ghost use Rattle.std.specs.Prelude.{◌≡◌, length, if◌then◌else◌, Ok, Err, nat_le};
 ghost use Rattle.labels.specs.Faults.{number_of};
 ghost use Rattle.labels.specs.Labels.{label, placed, Labelled, Written};

@@ -2,6 +2,8 @@
 //
 // Each function takes the lent cells and their free list. Cells in use are never written, so that every other root
 // reads as before; a result shares what it can with its sources.
+#![tactic(auto)]
+
 mod changes;
 mod halves;
 mod joining;

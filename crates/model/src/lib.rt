@@ -1,4 +1,6 @@
 // A pure model of 2-3 finger trees.
+#![tactic(auto)]
+
 mod levels;
 
 ghost use Rattle.model.specs.Statements.{CountsAreLengths, FewestItems, FewCells, PushForms, PushItems, PopKeeps, AppendKeeps, ReplacedKeeps};

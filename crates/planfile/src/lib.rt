@@ -7,6 +7,8 @@
 // Lines and targets may be mixed, and each group keeps its order. A file has at most 65,535 bytes.
 // Where a file is refused, the first bad field counts, and in it the lowest number (see `Cause`).
 // What is written has its lines first, then its targets, then the end.
+#![tactic(auto)]
+
 mod again;
 mod compose;
 mod faults;
