@@ -13,8 +13,8 @@ weigh-first-requires g t c =
     let l : 1 ≤ length (listed d) = omega (arith, listed_length d, d.filled.0) in
     subst (λ p. FormedNode c.args.level (node c.args.cells.now c.args.level p)) (sym c.finger.ensures) (each_first c.args.cells.now c.args.level (listed d) l c.requires.formed)
 
-pub weigh-run-more-requires : goal.weigh-run-more-requires
-weigh-run-more-requires g t c =
+pub weigh_run-more-requires : goal.weigh_run-more-requires
+weigh_run-more-requires g t c =
     let d = c.args.digit in
     let others = c.in-Some.others in
     let e = c.in-Some.ensures in

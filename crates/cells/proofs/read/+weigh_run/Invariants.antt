@@ -1,4 +1,4 @@
 use Rattle.cells.proofs.read.+weigh_run.Given as goal
 
-abbrev pub decreases-weigh-run : goal.decreases-weigh-run
-decreases-weigh-run g l = l.digit.count
+abbrev pub decreases-weigh_run : goal.decreases-weigh_run
+decreases-weigh_run g l = l.digit.count

@@ -3,8 +3,8 @@ use Rattle.cells.specs.Cells.{nodes, end}
 use Rattle.cells.proofs.Opened.{read_body, node_within, no_item, two_fingers, three_fingers}
 use Rattle.cells.proofs.read.fingers_of.Goals as goal
 
-pub offset-bounds-cells-at : goal.offset-bounds-cells-at
-offset-bounds-cells-at g c =
+pub offset_bounds-cells-at : goal.offset_bounds-cells-at
+offset_bounds-cells-at g c =
     let l : c.args.at < length c.args.cells.now = node_within c.args.cells.now (suc c.args.level) c.args.at c.requires g.K.Kind.kind in search rules
 
 pub bounds-cells-at : goal.bounds-cells-at
@@ -13,7 +13,7 @@ bounds-cells-at g c = node_within c.args.cells.now (suc c.args.level) c.args.at 
 pub unreachable-requires : goal.unreachable-requires
 unreachable-requires g c =
     let l = node_within c.args.cells.now (suc c.args.level) c.args.at c.requires g.K.Kind.kind in
-    no_item c.args.cells.now c.args.level c.args.at c.requires g.K.Kind.kind _ (read_body _ _ _ l c.index-cells-at.is) c.in-default.not-Two c.in-default.not-Three
+    no_item c.args.cells.now c.args.level c.args.at c.requires g.K.Kind.kind _ (read_body _ _ _ l c.index-cells-at.is) c.in_default.not-Two c.in_default.not-Three
 
 pub returns-in-Front : goal.returns-in-Front
 returns-in-Front g c =

@@ -2,8 +2,8 @@ use Rattle.std.proofs.Common.{sym, ◌∙◌, rules}
 use Rattle.cells.proofs.Opened.{read_body, node_within, node_weighs, node_other}
 use Rattle.cells.proofs.read.weigh.Goals as goal
 
-pub offset-bounds-cells-at : goal.offset-bounds-cells-at
-offset-bounds-cells-at g c = let l = node_within _ _ _ c.requires g.K.Kind.kind in search rules
+pub offset_bounds-cells-at : goal.offset_bounds-cells-at
+offset_bounds-cells-at g c = let l = node_within _ _ _ c.requires g.K.Kind.kind in search rules
 
 pub bounds-cells-at : goal.bounds-cells-at
 bounds-cells-at g c = node_within _ _ _ c.requires g.K.Kind.kind
@@ -12,7 +12,7 @@ pub unreachable-requires : goal.unreachable-requires
 unreachable-requires g c =
     let q = g.K.Kind.kind in
     let l = node_within _ _ _ c.requires q in
-    node_other _ _ _ c.requires q _ (read_body _ _ _ l c.index-cells-at.is) c.in-default.not-Item c.in-default.not-Two c.in-default.not-Three
+    node_other _ _ _ c.requires q _ (read_body _ _ _ l c.index-cells-at.is) c.in_default.not-Item c.in_default.not-Two c.in_default.not-Three
 
 pub returns-in-Item : goal.returns-in-Item
 returns-in-Item g c =

@@ -8,8 +8,8 @@ use Rattle.cells.proofs.read.weigh_tree.Goals as goal
 pub returns-then-root-eq0 : goal.returns-then-root-eq0
 returns-then-root-eq0 g c = let e = tree_none c.args.cells.now _ c.args.level c.args.root.at c.if-root-eq0.true in rw e (record { total_is = c.nothing.ensures; items_are = refl })
 
-pub offset-bounds-cells-root : goal.offset-bounds-cells-root
-offset-bounds-cells-root g c = let l = tree_within _ _ _ _ (omega arith) c.requires in search rules
+pub offset_bounds-cells-root : goal.offset_bounds-cells-root
+offset_bounds-cells-root g c = let l = tree_within _ _ _ _ (omega arith) c.requires in search rules
 
 pub bounds-cells-root : goal.bounds-cells-root
 bounds-cells-root g c = tree_within _ _ _ _ (omega arith) c.requires
@@ -23,7 +23,7 @@ weigh-requires g c =
 pub unreachable-requires : goal.unreachable-requires
 unreachable-requires g c =
     let l = tree_within _ _ _ _ (omega arith) c.requires in
-    tree_other _ _ _ _ (omega arith) c.requires _ (read_body _ _ _ l c.index-cells-root.is) c.in-default.not-Single c.in-default.not-Deep
+    tree_other _ _ _ _ (omega arith) c.requires _ (read_body _ _ _ l c.index-cells-root.is) c.in_default.not-Single c.in_default.not-Deep
 
 pub returns-in-Single : goal.returns-in-Single
 returns-in-Single g c =

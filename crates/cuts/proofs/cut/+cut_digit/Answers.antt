@@ -19,24 +19,24 @@ returns-then-position-weight g t c =
     let e : listed d ≡ c.finger-finger.result ∷ listed_some c.rest-others.result = after_first _ _ c.rest-others.result c.rest-others.ensures ∙ ap (λ x. x ∷ listed_some c.rest-others.result) (sym c.finger-finger.ensures) in
     cut_here c.args.cells.now c.args.level c.args.position (listed d) _ _ e _ c.weigh-weight.ensures.items_are (listed_some c.args.passed) c.if-position-weight.true
 
-pub prepend-some-more-requires : goal.prepend-some-more-requires
-prepend-some-more-requires g t c = omega (arith, c.requires.few, c.args.digit.filled.0)
+pub prepend_some-more-requires : goal.prepend_some-more-requires
+prepend_some-more-requires g t c = omega (arith, c.requires.few, c.args.digit.filled.0)
 
-pub cut-digit-requires : goal.cut-digit-requires
-cut-digit-requires g t c κs within =
+pub cut_digit-requires : goal.cut_digit-requires
+cut_digit-requires g t c κs within =
     let d = c.args.digit in
     let rest = c.in-Some.rest in
     let e : listed d ≡ c.finger-finger.result ∷ listed rest = c.in-Some.ensures ∙ ap (λ x. x ∷ listed rest) (sym c.finger-finger.ensures) in
     let n = others_count c.args.cells.now c.args.level c.args.position (listed d) _ _ e _ c.weigh-weight.ensures.items_are in
     let less : rest.count < d.count = omega (arith, ap length e, listed_length d, listed_length rest) in
-    (search rules, (within.0, (within.1.0, (within.1.1.0, (within.1.1.1, (omega (arith, ap length c.prepend-some-more.ensures, ap length e, listed_length d, listed_length rest, c.requires.few), (others_ready c.args.cells.now c.args.level c.args.position (listed d) _ _ e _ c.weigh-weight.ensures.items_are c.requires.formed, omega (arith, n, c.if-position-weight.false, c.requires.within))))))))
+    (search rules, (within.0, (within.1.0, (within.1.1.0, (within.1.1.1, (omega (arith, ap length c.prepend_some-more.ensures, ap length e, listed_length d, listed_length rest, c.requires.few), (others_ready c.args.cells.now c.args.level c.args.position (listed d) _ _ e _ c.weigh-weight.ensures.items_are c.requires.formed, omega (arith, n, c.if-position-weight.false, c.requires.within))))))))
 
 pub returns : goal.returns
 returns g t c =
     let d = c.args.digit in
     let rest = c.in-Some.rest in
     let e : listed d ≡ c.finger-finger.result ∷ listed rest = c.in-Some.ensures ∙ ap (λ x. x ∷ listed rest) (sym c.finger-finger.ensures) in
-    cut_later c.args.cells.now c.args.level c.args.position (listed d) _ _ e _ c.weigh-weight.ensures.items_are (listed_some c.args.passed) _ _ c.prepend-some-more.ensures c.if-position-weight.false c.cut-digit.ensures
+    cut_later c.args.cells.now c.args.level c.args.position (listed d) _ _ e _ c.weigh-weight.ensures.items_are (listed_some c.args.passed) _ _ c.prepend_some-more.ensures c.if-position-weight.false c.cut_digit.ensures
 
 pub unreachable-requires : goal.unreachable-requires
 unreachable-requires g t c =

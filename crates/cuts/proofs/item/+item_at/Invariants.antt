@@ -1,4 +1,4 @@
 use Rattle.cuts.proofs.item.+item_at.Given as goal
 
-abbrev pub decreases-item-at : goal.decreases-item-at
-decreases-item-at g l = l.root.levels
+abbrev pub decreases-item_at : goal.decreases-item_at
+decreases-item_at g l = l.root.levels

@@ -70,7 +70,7 @@ returns-in-Some g t c =
     let seen = c.in-Deep.ensures in
     let e : listed c.in-Deep.near ≡ c.finger-finger.result ∷ listed c.in-Some.others = c.in-Some.ensures ∙ ap (λ x. x ∷ listed c.in-Some.others) (sym c.finger-finger.ensures) in
     let some : 1 ≤ length (listed c.in-Some.others) = omega (arith, listed_length c.in-Some.others, c.in-Some.others.filled.0) in
-    pop_first g.K.Kind.kind (end c.args.side) c.args.cells.now c.args.level c.args.root seen _ _ e (trimmed_some g.K.Kind.kind (end c.args.side) c.args.cells.now c.args.level c.args.root seen _ _ e some c.deep-at-rest.ensures)
+    pop_first g.K.Kind.kind (end c.args.side) c.args.cells.now c.args.level c.args.root seen _ _ e (trimmed_some g.K.Kind.kind (end c.args.side) c.args.cells.now c.args.level c.args.root seen _ _ e some c.deep_at-rest.ensures)
 
 pub returns-in-None : goal.returns-in-None
 returns-in-None g t c =

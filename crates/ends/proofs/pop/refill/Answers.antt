@@ -7,14 +7,14 @@ use Rattle.ends.specs.Pops.{popped_of, PoppedWell, popped_levels, count_popped}
 use Rattle.model.proofs.Popping.{count_fingers}
 use Rattle.ends.proofs.pop.refill.Goals as goal
 
-pub deep-at-requires : goal.deep-at-requires
-deep-at-requires g c =
+pub deep_at-requires : goal.deep_at-requires
+deep_at-requires g c =
     let k = c.args.level in
     let h = c.args.cells.now in
     let s = end c.args.side in
     let is = c.in-Some.is in
     let w = subst (PoppedWell h (suc k)) is c.requires.below in
-    let near = c.fingers-of-near.ensures in
+    let near = c.fingers_of-near.ensures in
     let p = fingers_formed s k (node h (suc k) c.in-Some.inner.finger) w.0 in
     record {
       room = c.requires.room;

@@ -9,8 +9,8 @@ use Rattle.ends.proofs.Pushing.{made_as}
 use Rattle.ends.proofs.Popping.{tree_from_more, each_append, count_append}
 use Rattle.ends.proofs.pop.tree_from.Goals as goal
 
-pub deep-at-requires : goal.deep-at-requires
-deep-at-requires g c =
+pub deep_at-requires : goal.deep_at-requires
+deep_at-requires g c =
     let k = c.args.level in
     let h = c.args.cells.now in
     let d = c.args.digit in
@@ -42,4 +42,4 @@ returns g c =
     let top = d.filled.1 in
     let low = d.filled.0 in
     let more = c.if-digit-eq1.false in
-    made_as 1 _ c.deep-at.ensures (tree_from_more g.K.Kind.kind (end c.args.side) c.args.cells.now c.args.level _ _ _ _ e f (omega arith) (omega arith)) (omega arith)
+    made_as 1 _ c.deep_at.ensures (tree_from_more g.K.Kind.kind (end c.args.side) c.args.cells.now c.args.level _ _ _ _ e f (omega arith) (omega arith)) (omega arith)

@@ -36,7 +36,7 @@ pub returns-in-Some : goal.returns-in-Some
 returns-in-Some g c =
     let d = c.in-Some.fingers in
     let some : 1 ≤ length (listed d) = omega (arith, listed_length d, d.filled.0) in
-    rw c.in-Some.is (trimmed_near g.K.Kind.kind (end c.args.side) (listed d) _ _ (c.args.middle.levels + 1) some (omega arith) c.deep-at.ensures)
+    rw c.in-Some.is (trimmed_near g.K.Kind.kind (end c.args.side) (listed d) _ _ (c.args.middle.levels + 1) some (omega arith) c.deep_at.ensures)
 
 pub returns-in-None : goal.returns-in-None
 returns-in-None g c =

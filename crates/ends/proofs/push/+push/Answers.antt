@@ -8,8 +8,8 @@ use Rattle.cells.proofs.Opened.{tree_none}
 use Rattle.ends.proofs.Pushing.{push_some, full_levels, below_some, below_exact, four_listed, push_empty, push_single, push_roomy, fingers_formed, fingers_count, middle_ready, three_ready, carried_count, near_ready, far_ready, below_ready, below_levels, level_count, push_fuller}
 use Rattle.ends.proofs.push.+push.Goals as goal
 
-pub deep-at-requires : goal.deep-at-requires
-deep-at-requires g t c =
+pub deep_at-requires : goal.deep_at-requires
+deep_at-requires g t c =
     let k = c.args.level in
     let h = c.args.cells.now in
     let e = c.in-Single.ensures in
@@ -28,10 +28,10 @@ deep-at-requires g t c =
 
 pub returns-then-near-lt4 : goal.returns-then-near-lt4
 returns-then-near-lt4 g t c =
-    push_roomy g.K.Kind.kind (end c.args.side) c.args.cells.now c.args.level c.args.finger c.args.root c.requires.finger c.requires.formed c.in-Deep.ensures _ c.deep-at-then-near-lt4.ensures c.prepend-more.ensures c.if-near-lt4.true
+    push_roomy g.K.Kind.kind (end c.args.side) c.args.cells.now c.args.level c.args.finger c.args.root c.requires.finger c.requires.formed c.in-Deep.ensures _ c.deep_at-then-near-lt4.ensures c.prepend-more.ensures c.if-near-lt4.true
 
-pub three-at-three-requires : goal.three-at-three-requires
-three-at-three-requires g t c =
+pub three_at-three-requires : goal.three_at-three-requires
+three_at-three-requires g t c =
     let q = g.K.Kind.kind in
     let full = four_listed c.in-Deep.near c.if-near-lt4.false in
     let e = fingers_formed q (end c.args.side) c.args.cells.now c.args.level c.args.finger c.args.root c.requires.finger c.requires.formed c.in-Deep.ensures full in
@@ -44,7 +44,7 @@ push-below-requires g t c κs within =
     let step : suc c.args.level ≡ c.args.level + 1 = omega arith in
     let levels = c.in-Deep.ensures.levels in
     let less : c.in-Deep.middle.levels < c.args.root.levels = omega arith in
-    let spent = c.three-at-three.ensures.grown.spent in (
+    let spent = c.three_at-three.ensures.grown.spent in (
       search rules,
       (
         within.0,
@@ -55,12 +55,12 @@ push-below-requires g t c κs within =
             (
               within.1.1.1,
               (
-                omega (arith, full_levels g.K.Kind.kind (end c.args.side) c.args.cells.now c.args.level c.args.finger c.args.root c.requires.finger c.requires.formed c.in-Deep.ensures full c.three-at-three.ensures step, c.requires.room),
+                omega (arith, full_levels g.K.Kind.kind (end c.args.side) c.args.cells.now c.args.level c.args.finger c.args.root c.requires.finger c.requires.formed c.in-Deep.ensures full c.three_at-three.ensures step, c.requires.room),
                 (
-                  c.three-at-three.ensures.grown.sound,
+                  c.three_at-three.ensures.grown.sound,
                   (
                     omega (arith, c.requires.shallow),
-                    (middle_ready g.K.Kind.kind (end c.args.side) c.args.cells.now c.args.level c.args.finger c.args.root c.requires.finger c.requires.formed c.in-Deep.ensures full c.three-at-three.ensures step, (three_ready g.K.Kind.kind (end c.args.side) c.args.cells.now c.args.level c.args.finger c.args.root c.requires.finger c.requires.formed c.in-Deep.ensures full c.three-at-three.ensures step, omega (arith, carried_count g.K.Kind.kind (end c.args.side) c.args.cells.now c.args.level c.args.finger c.args.root c.requires.finger c.requires.formed c.in-Deep.ensures full c.three-at-three.ensures step, c.requires.fits))),
+                    (middle_ready g.K.Kind.kind (end c.args.side) c.args.cells.now c.args.level c.args.finger c.args.root c.requires.finger c.requires.formed c.in-Deep.ensures full c.three_at-three.ensures step, (three_ready g.K.Kind.kind (end c.args.side) c.args.cells.now c.args.level c.args.finger c.args.root c.requires.finger c.requires.formed c.in-Deep.ensures full c.three_at-three.ensures step, omega (arith, carried_count g.K.Kind.kind (end c.args.side) c.args.cells.now c.args.level c.args.finger c.args.root c.requires.finger c.requires.formed c.in-Deep.ensures full c.three_at-three.ensures step, c.requires.fits))),
                   ),
                 ),
               ),
@@ -70,38 +70,38 @@ push-below-requires g t c κs within =
       ),
     )
 
-pub deep-at-requires-in-Deep : goal.deep-at-requires-in-Deep
-deep-at-requires-in-Deep g t c =
+pub deep_at-requires-in-Deep : goal.deep_at-requires-in-Deep
+deep_at-requires-in-Deep g t c =
     let full = four_listed c.in-Deep.near c.if-near-lt4.false in
     let step : suc c.args.level ≡ c.args.level + 1 = omega arith in
-    let l = below_levels g.K.Kind.kind (end c.args.side) c.args.cells.now c.args.level c.args.finger c.args.root c.requires.finger c.requires.formed c.in-Deep.ensures full c.three-at-three.ensures step c.push-below.ensures _ c.two-two.ensures in
-    let spent = c.three-at-three.ensures.grown.spent in
+    let l = below_levels g.K.Kind.kind (end c.args.side) c.args.cells.now c.args.level c.args.finger c.args.root c.requires.finger c.requires.formed c.in-Deep.ensures full c.three_at-three.ensures step c.push-below.ensures _ c.two-two.ensures in
+    let spent = c.three_at-three.ensures.grown.spent in
     let more = c.push-below.ensures.grown.spent in
     record {
-      room = omega (arith, full_levels g.K.Kind.kind (end c.args.side) c.args.cells.now c.args.level c.args.finger c.args.root c.requires.finger c.requires.formed c.in-Deep.ensures full c.three-at-three.ensures step, below_exact g.K.Kind.kind (end c.args.side) c.args.cells.now c.args.level c.args.finger c.args.root c.requires.finger c.requires.formed c.in-Deep.ensures full c.three-at-three.ensures step c.push-below.ensures _ c.two-two.ensures, below_some g.K.Kind.kind (end c.args.side) c.args.cells.now c.args.level c.args.finger c.args.root c.requires.finger c.requires.formed c.in-Deep.ensures full c.three-at-three.ensures step c.push-below.ensures _ c.two-two.ensures, spent, more, c.requires.room);
+      room = omega (arith, full_levels g.K.Kind.kind (end c.args.side) c.args.cells.now c.args.level c.args.finger c.args.root c.requires.finger c.requires.formed c.in-Deep.ensures full c.three_at-three.ensures step, below_exact g.K.Kind.kind (end c.args.side) c.args.cells.now c.args.level c.args.finger c.args.root c.requires.finger c.requires.formed c.in-Deep.ensures full c.three_at-three.ensures step c.push-below.ensures _ c.two-two.ensures, below_some g.K.Kind.kind (end c.args.side) c.args.cells.now c.args.level c.args.finger c.args.root c.requires.finger c.requires.formed c.in-Deep.ensures full c.three_at-three.ensures step c.push-below.ensures _ c.two-two.ensures, spent, more, c.requires.room);
       sound = c.push-below.ensures.grown.sound;
       shallow = omega (arith, l, c.requires.shallow);
-      near = near_ready g.K.Kind.kind (end c.args.side) c.args.cells.now c.args.level c.args.finger c.args.root c.requires.finger c.requires.formed c.in-Deep.ensures full c.three-at-three.ensures step c.push-below.ensures _ c.two-two.ensures;
-      middle = below_ready g.K.Kind.kind (end c.args.side) c.args.cells.now c.args.level c.args.finger c.args.root c.requires.finger c.requires.formed c.in-Deep.ensures full c.three-at-three.ensures step c.push-below.ensures _ c.two-two.ensures;
-      far = far_ready g.K.Kind.kind (end c.args.side) c.args.cells.now c.args.level c.args.finger c.args.root c.requires.finger c.requires.formed c.in-Deep.ensures full c.three-at-three.ensures step c.push-below.ensures _ c.two-two.ensures;
-      fits = omega (arith, level_count g.K.Kind.kind (end c.args.side) c.args.cells.now c.args.level c.args.finger c.args.root c.requires.finger c.requires.formed c.in-Deep.ensures full c.three-at-three.ensures step c.push-below.ensures _ c.two-two.ensures, c.requires.fits);
+      near = near_ready g.K.Kind.kind (end c.args.side) c.args.cells.now c.args.level c.args.finger c.args.root c.requires.finger c.requires.formed c.in-Deep.ensures full c.three_at-three.ensures step c.push-below.ensures _ c.two-two.ensures;
+      middle = below_ready g.K.Kind.kind (end c.args.side) c.args.cells.now c.args.level c.args.finger c.args.root c.requires.finger c.requires.formed c.in-Deep.ensures full c.three_at-three.ensures step c.push-below.ensures _ c.two-two.ensures;
+      far = far_ready g.K.Kind.kind (end c.args.side) c.args.cells.now c.args.level c.args.finger c.args.root c.requires.finger c.requires.formed c.in-Deep.ensures full c.three_at-three.ensures step c.push-below.ensures _ c.two-two.ensures;
+      fits = omega (arith, level_count g.K.Kind.kind (end c.args.side) c.args.cells.now c.args.level c.args.finger c.args.root c.requires.finger c.requires.formed c.in-Deep.ensures full c.three_at-three.ensures step c.push-below.ensures _ c.two-two.ensures, c.requires.fits);
     }
 
 pub returns-in-Empty : goal.returns-in-Empty
-returns-in-Empty g t c = push_empty g.K.Kind.kind (end c.args.side) c.args.cells.now c.args.level c.args.finger c.args.root c.requires.finger c.requires.formed c.make-single.ensures c.in-Empty.ensures.0
+returns-in-Empty g t c = push_empty g.K.Kind.kind (end c.args.side) c.args.cells.now c.args.level c.args.finger c.args.root c.requires.finger c.requires.formed c.make_single.ensures c.in-Empty.ensures.0
 
 pub returns-in-Single : goal.returns-in-Single
 returns-in-Single g t c =
-    push_single g.K.Kind.kind (end c.args.side) c.args.cells.now c.args.level c.args.finger c.args.root c.requires.finger c.requires.formed _ _ _ c.deep-at.ensures c.one-near.ensures c.one-far.ensures c.in-Single.ensures.0
+    push_single g.K.Kind.kind (end c.args.side) c.args.cells.now c.args.level c.args.finger c.args.root c.requires.finger c.requires.formed _ _ _ c.deep_at.ensures c.one-near.ensures c.one-far.ensures c.in-Single.ensures.0
 
 pub returns-else-near-lt4 : goal.returns-else-near-lt4
 returns-else-near-lt4 g t c =
     let full = four_listed c.in-Deep.near c.if-near-lt4.false in
     let step : suc c.args.level ≡ c.args.level + 1 = omega arith in
-    push_fuller g.K.Kind.kind (end c.args.side) c.args.cells.now c.args.level c.args.finger c.args.root c.requires.finger c.requires.formed c.in-Deep.ensures full c.three-at-three.ensures step c.push-below.ensures _ c.two-two.ensures c.deep-at-in-Deep.ensures
+    push_fuller g.K.Kind.kind (end c.args.side) c.args.cells.now c.args.level c.args.finger c.args.root c.requires.finger c.requires.formed c.in-Deep.ensures full c.three_at-three.ensures step c.push-below.ensures _ c.two-two.ensures c.deep_at-in-Deep.ensures
 
-pub deep-at-requires-then-near-lt4 : goal.deep-at-requires-then-near-lt4
-deep-at-requires-then-near-lt4 g t c =
+pub deep_at-requires-then-near-lt4 : goal.deep_at-requires-then-near-lt4
+deep_at-requires-then-near-lt4 g t c =
     let k = c.args.level in
     let h = c.args.cells.now in
     let seen = c.in-Deep.ensures in

@@ -3,8 +3,8 @@ use Rattle.lists.proofs.Roots.{formed_at, count_at}
 use Rattle.lists.proofs.Parting.{root_shallow}
 use Rattle.lists.proofs.positions.item.Goals as goal
 
-pub item-at-requires : goal.item-at-requires
-item-at-requires g c =
+pub item_at-requires : goal.item_at-requires
+item_at-requires g c =
     let n = count_at c.args.cells.now c.args.root c.requires.whole in
     record {
       shallow = omega (arith, root_shallow g.K.Kind.kind c.args.cells.now c.args.root c.requires.whole c.requires.fits);

@@ -20,12 +20,12 @@ pop-requires g c =
 pub unreachable-requires : goal.unreachable-requires
 unreachable-requires g c = never_none g.K.Kind.kind (end c.args.side) c.args.cells.now c.args.root c.requires.whole c.if-root-eq0.false c.in-None.ensures
 
-pub read-item-item-requires : goal.read-item-item-requires
-read-item-item-requires g c = finger_ready g.K.Kind.kind (end c.args.side) c.args.cells.now c.args.root c.requires.whole c.in-Some.popped c.in-Some.ensures
+pub read_item-item-requires : goal.read_item-item-requires
+read_item-item-requires g c = finger_ready g.K.Kind.kind (end c.args.side) c.args.cells.now c.args.root c.requires.whole c.in-Some.popped c.in-Some.ensures
 
 pub returns : goal.returns
 returns g c =
     record {
-      given = took g.K.Kind.kind (end c.args.side) c.args.cells.now c.args.root c.requires.whole c.in-Some.popped c.in-Some.ensures c.read-item-item.result c.read-item-item.ensures;
-      right = took_right g.K.Kind.kind (end c.args.side) c.args.cells.now c.args.root c.requires.whole c.in-Some.popped c.in-Some.ensures c.read-item-item.result c.read-item-item.ensures g.met.K.Kind.lawful;
+      given = took g.K.Kind.kind (end c.args.side) c.args.cells.now c.args.root c.requires.whole c.in-Some.popped c.in-Some.ensures c.read_item-item.result c.read_item-item.ensures;
+      right = took_right g.K.Kind.kind (end c.args.side) c.args.cells.now c.args.root c.requires.whole c.in-Some.popped c.in-Some.ensures c.read_item-item.result c.read_item-item.ensures g.met.K.Kind.lawful;
     }

@@ -1,4 +1,4 @@
 use Rattle.places.proofs.replace.+replace_node.Given as goal
 
-abbrev pub decreases-replace-node : goal.decreases-replace-node
-decreases-replace-node g l = l.level
+abbrev pub decreases-replace_node : goal.decreases-replace_node
+decreases-replace_node g l = l.level

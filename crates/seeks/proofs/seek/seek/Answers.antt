@@ -12,7 +12,7 @@ returns-then-root-eq0 g c = record {
 
 pub returns-then-not-meets : goal.returns-then-not-meets
 returns-then-not-meets g c = record {
-  right = seek_misses g.K.Kind.kind c.args.question (tree c.args.cells.now c.args.root.levels 0 c.args.root.at) g.met.K.Kind.lawful _ c.weigh-tree-whole.ensures.total_is (sym c.meets.ensures ∙ c.if-not-meets.true);
+  right = seek_misses g.K.Kind.kind c.args.question (tree c.args.cells.now c.args.root.levels 0 c.args.root.at) g.met.K.Kind.lawful _ c.weigh_tree-whole.ensures.total_is (sym c.meets.ensures ∙ c.if-not-meets.true);
   within = tt;
 }
 
@@ -20,6 +20,6 @@ pub returns : goal.returns
 returns g c =
     let t = tree c.args.cells.now c.args.root.levels 0 c.args.root.at in
     record {
-      right = seek_hits g.K.Kind.kind c.args.question t g.met.K.Kind.lawful _ c.weigh-tree-whole.ensures.total_is (sym c.meets.ensures ∙ c.if-not-meets.false) c.args.cells.now _ c.nothing.ensures c.locate-spot.result c.locate-spot.ensures;
+      right = seek_hits g.K.Kind.kind c.args.question t g.met.K.Kind.lawful _ c.weigh_tree-whole.ensures.total_is (sym c.meets.ensures ∙ c.if-not-meets.false) c.args.cells.now _ c.nothing.ensures c.locate-spot.result c.locate-spot.ensures;
       within = seek_within g.K.Kind.kind c.args.question t c.requires.formed c.args.cells.now _ c.locate-spot.result c.locate-spot.ensures;
     }

@@ -12,8 +12,8 @@ returns-in-None g t c =
 pub weigh-weight-requires : goal.weigh-weight-requires
 weigh-weight-requires g t c = first_formed c.args.cells.now c.args.level c.args.digit _ c.finger-finger.ensures c.requires.formed
 
-pub overflow-add-position : goal.overflow-add-position
-overflow-add-position g t c =
+pub overflow_add-position : goal.overflow_add-position
+overflow_add-position g t c =
     let others = listed c.in-Some.others in
     let e : listed c.args.digit ≡ c.finger-finger.result ∷ others = c.in-Some.ensures ∙ ap (λ x. x ∷ others) (sym c.finger-finger.ensures) in
     omega (arith, count_opened c.args.cells.now c.args.level c.finger-finger.result others (listed c.args.digit) e, c.weigh-weight.ensures.items_are, c.requires.fits)
@@ -25,8 +25,8 @@ returns-then-meets g t c =
     let n = c.join-next.ensures ∙ ap (g.K.Kind.kind.joined c.args.before) c.weigh-weight.ensures.total_is in
     spot_here {k = g.K.Kind.kind} g.met.K.Kind.lawful c.args.cells.now c.args.level c.args.question c.args.position c.args.before c.finger-finger.result (listed c.args.digit) c.requires.formed others e _ n (sym c.meets.ensures ∙ c.if-meets.true)
 
-pub spot-digit-requires : goal.spot-digit-requires
-spot-digit-requires g t c κs within =
+pub spot_digit-requires : goal.spot_digit-requires
+spot_digit-requires g t c κs within =
     let d = c.args.digit in
     let others = listed c.in-Some.others in
     let e : listed d ≡ c.finger-finger.result ∷ others = c.in-Some.ensures ∙ ap (λ x. x ∷ others) (sym c.finger-finger.ensures) in
@@ -39,4 +39,4 @@ returns-else-meets g t c =
     let others = listed c.in-Some.others in
     let e : listed c.args.digit ≡ c.finger-finger.result ∷ others = c.in-Some.ensures ∙ ap (λ x. x ∷ others) (sym c.finger-finger.ensures) in
     let n = c.join-next.ensures ∙ ap (g.K.Kind.kind.joined c.args.before) c.weigh-weight.ensures.total_is in
-    spot_later {k = g.K.Kind.kind} g.met.K.Kind.lawful c.args.cells.now c.args.level c.args.question c.args.position c.args.before c.finger-finger.result (listed c.args.digit) c.requires.formed others e _ n (sym c.meets.ensures ∙ c.if-meets.false) _ c.weigh-weight.ensures.items_are _ c.spot-digit.ensures
+    spot_later {k = g.K.Kind.kind} g.met.K.Kind.lawful c.args.cells.now c.args.level c.args.question c.args.position c.args.before c.finger-finger.result (listed c.args.digit) c.requires.formed others e _ n (sym c.meets.ensures ∙ c.if-meets.false) _ c.weigh-weight.ensures.items_are _ c.spot_digit.ensures

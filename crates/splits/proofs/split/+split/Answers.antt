@@ -14,19 +14,19 @@ unreachable-requires g t c = omega (arith, ap count c.in-Empty.ensures.0, c.requ
 pub returns-in-Single : goal.returns-in-Single
 returns-in-Single g t c = single_done g.K.Kind.kind c.args.cells.now c.args.free.now (c.args.root.levels * c.args.root.levels + c.args.root.levels) c.args.level c.in-Single.finger c.args.position (tree c.args.cells.now c.args.root.levels c.args.level c.args.root.at) c.requires.sound c.in-Single.ensures.0
 
-pub weigh-run-first-requires : goal.weigh-run-first-requires
-weigh-run-first-requires g t c = record { formed = c.in-Deep.ensures.near_formed; fits = omega (arith, c.in-Deep.ensures.counts, c.requires.fits) }
+pub weigh_run-first-requires : goal.weigh_run-first-requires
+weigh_run-first-requires g t c = record { formed = c.in-Deep.ensures.near_formed; fits = omega (arith, c.in-Deep.ensures.counts, c.requires.fits) }
 
 -- the level is cut at its front
-pub cut-digit-cut-requires : goal.cut-digit-cut-requires
-cut-digit-cut-requires g t c = record { few = omega (arith, c.in-Deep.near.filled.1); formed = c.in-Deep.ensures.near_formed; within = omega (arith, c.if-position-first.true, c.weigh-run-first.ensures.items_are) }
+pub cut_digit-cut-requires : goal.cut_digit-cut-requires
+cut_digit-cut-requires g t c = record { few = omega (arith, c.in-Deep.near.filled.1); formed = c.in-Deep.ensures.near_formed; within = omega (arith, c.if-position-first.true, c.weigh_run-first.ensures.items_are) }
 
-pub halve-front-requires : goal.halve-front-requires
-halve-front-requires g t c =
+pub halve_front-requires : goal.halve_front-requires
+halve_front-requires g t c =
     let seen = c.in-Deep.ensures in
     let sq = squares c.in-Deep.middle.levels c.args.root.levels seen.levels in
-    let w = cut_known c.args.cells.now c.args.level c.args.position (listed c.in-Deep.near) seen.near_formed (omega (arith, c.if-position-first.true, c.weigh-run-first.ensures.items_are)) c.cut-digit-cut.result c.cut-digit-cut.ensures in
-    let s = cut_sums c.args.cells.now c.args.level c.args.position (listed c.in-Deep.near) seen.near_formed (omega (arith, c.if-position-first.true, c.weigh-run-first.ensures.items_are)) c.cut-digit-cut.result c.cut-digit-cut.ensures in
+    let w = cut_known c.args.cells.now c.args.level c.args.position (listed c.in-Deep.near) seen.near_formed (omega (arith, c.if-position-first.true, c.weigh_run-first.ensures.items_are)) c.cut_digit-cut.result c.cut_digit-cut.ensures in
+    let s = cut_sums c.args.cells.now c.args.level c.args.position (listed c.in-Deep.near) seen.near_formed (omega (arith, c.if-position-first.true, c.weigh_run-first.ensures.items_are)) c.cut_digit-cut.result c.cut_digit-cut.ensures in
     record {
       room = omega (arith, sq, c.requires.room);
       sound = c.requires.sound;
@@ -43,10 +43,10 @@ pub returns-then-position-first : goal.returns-then-position-first
 returns-then-position-first g t c =
     let seen = c.in-Deep.ensures in
     let sq = squares c.in-Deep.middle.levels c.args.root.levels seen.levels in
-    front_done g.K.Kind.kind c.args.cells.now c.args.level c.args.position c.args.root seen c.cut-digit-cut.result c.cut-digit-cut.ensures (c.args.root.levels * c.args.root.levels + c.args.root.levels) (omega (arith, c.if-position-first.true, c.weigh-run-first.ensures.items_are)) (omega (arith, sq)) c.halve-front.ensures
+    front_done g.K.Kind.kind c.args.cells.now c.args.level c.args.position c.args.root seen c.cut_digit-cut.result c.cut_digit-cut.ensures (c.args.root.levels * c.args.root.levels + c.args.root.levels) (omega (arith, c.if-position-first.true, c.weigh_run-first.ensures.items_are)) (omega (arith, sq)) c.halve_front.ensures
 
-pub weigh-tree-inner-requires : goal.weigh-tree-inner-requires
-weigh-tree-inner-requires g t c = subst (λ j. Formed j (tree c.args.cells.now c.in-Deep.middle.levels j c.in-Deep.middle.at)) (omega arith) c.in-Deep.ensures.middle_formed
+pub weigh_tree-inner-requires : goal.weigh_tree-inner-requires
+weigh_tree-inner-requires g t c = subst (λ j. Formed j (tree c.args.cells.now c.in-Deep.middle.levels j c.in-Deep.middle.at)) (omega arith) c.in-Deep.ensures.middle_formed
 
 -- the level is cut in its middle
 pub split-halves-requires : goal.split-halves-requires
@@ -57,28 +57,28 @@ split-halves-requires g t c κs within =
     let lower = seen.levels in
     let less : c.in-Deep.middle.levels < c.args.root.levels = omega arith in
     let n = ap (λ j. count (tree c.args.cells.now c.in-Deep.middle.levels j c.in-Deep.middle.at)) step in
-    (search rules, (within.0, (within.1.0, (within.1.1.0, (within.1.1.1, (omega (arith, sq, c.requires.room), (c.requires.sound, (omega (arith, c.requires.shallow), (subst (λ j. Formed j (tree c.args.cells.now c.in-Deep.middle.levels j c.in-Deep.middle.at)) step seen.middle_formed, (omega (arith, n, seen.counts, c.requires.fits), omega (arith, c.if-after-inner.true, c.weigh-tree-inner.ensures.items_are)))))))))))
+    (search rules, (within.0, (within.1.0, (within.1.1.0, (within.1.1.1, (omega (arith, sq, c.requires.room), (c.requires.sound, (omega (arith, c.requires.shallow), (subst (λ j. Formed j (tree c.args.cells.now c.in-Deep.middle.levels j c.in-Deep.middle.at)) step seen.middle_formed, (omega (arith, n, seen.counts, c.requires.fits), omega (arith, c.if-after-inner.true, c.weigh_tree-inner.ensures.items_are)))))))))))
 
-pub halve-below-requires : goal.halve-below-requires
-halve-below-requires g t c =
+pub halve_below-requires : goal.halve_below-requires
+halve_below-requires g t c =
     let seen = c.in-Deep.ensures in
     let step : suc c.args.level ≡ c.args.level + 1 = omega arith in
     let sq = squares c.in-Deep.middle.levels c.args.root.levels seen.levels in
-    let here = inner g.K.Kind.kind c.args.cells.now c.args.level c.args.position c.args.root seen c.weigh-run-first.result.items c.weigh-run-first.ensures.items_are c.if-position-first.false (c.args.level + 1) step (omega (arith, c.if-after-inner.true, c.weigh-tree-inner.ensures.items_are)) c.split-halves.result c.split-halves.ensures in
-    let l = left_levels g.K.Kind.kind c.args.cells.now c.args.level c.args.position c.args.root seen c.weigh-run-first.result.items c.weigh-run-first.ensures.items_are c.if-position-first.false (c.args.level + 1) step (omega (arith, c.if-after-inner.true, c.weigh-tree-inner.ensures.items_are)) c.split-halves.result c.split-halves.ensures in
-    let r = right_levels g.K.Kind.kind c.args.cells.now c.args.level c.args.position c.args.root seen c.weigh-run-first.result.items c.weigh-run-first.ensures.items_are c.if-position-first.false (c.args.level + 1) step (omega (arith, c.if-after-inner.true, c.weigh-tree-inner.ensures.items_are)) c.split-halves.result c.split-halves.ensures in
+    let here = inner g.K.Kind.kind c.args.cells.now c.args.level c.args.position c.args.root seen c.weigh_run-first.result.items c.weigh_run-first.ensures.items_are c.if-position-first.false (c.args.level + 1) step (omega (arith, c.if-after-inner.true, c.weigh_tree-inner.ensures.items_are)) c.split-halves.result c.split-halves.ensures in
+    let l = left_levels g.K.Kind.kind c.args.cells.now c.args.level c.args.position c.args.root seen c.weigh_run-first.result.items c.weigh_run-first.ensures.items_are c.if-position-first.false (c.args.level + 1) step (omega (arith, c.if-after-inner.true, c.weigh_tree-inner.ensures.items_are)) c.split-halves.result c.split-halves.ensures in
+    let r = right_levels g.K.Kind.kind c.args.cells.now c.args.level c.args.position c.args.root seen c.weigh_run-first.result.items c.weigh_run-first.ensures.items_are c.if-position-first.false (c.args.level + 1) step (omega (arith, c.if-after-inner.true, c.weigh_tree-inner.ensures.items_are)) c.split-halves.result c.split-halves.ensures in
     let spent = c.split-halves.ensures.grown.spent in
     record {
       room = omega (arith, sq, l, r, spent, c.requires.room);
       sound = c.split-halves.ensures.grown.sound;
       shallow = omega (arith, seen.levels, l, r, c.requires.shallow);
-      front = near_ready g.K.Kind.kind c.args.cells.now c.args.level c.args.position c.args.root seen c.weigh-run-first.result.items c.weigh-run-first.ensures.items_are c.if-position-first.false (c.args.level + 1) step (omega (arith, c.if-after-inner.true, c.weigh-tree-inner.ensures.items_are)) c.split-halves.result c.split-halves.ensures;
+      front = near_ready g.K.Kind.kind c.args.cells.now c.args.level c.args.position c.args.root seen c.weigh_run-first.result.items c.weigh_run-first.ensures.items_are c.if-position-first.false (c.args.level + 1) step (omega (arith, c.if-after-inner.true, c.weigh_tree-inner.ensures.items_are)) c.split-halves.result c.split-halves.ensures;
       left = here.before;
       here = here.here;
-      within = inner_within g.K.Kind.kind c.args.cells.now c.args.level c.args.position c.args.root seen c.weigh-run-first.result.items c.weigh-run-first.ensures.items_are c.if-position-first.false (c.args.level + 1) step (omega (arith, c.if-after-inner.true, c.weigh-tree-inner.ensures.items_are)) c.split-halves.result c.split-halves.ensures;
+      within = inner_within g.K.Kind.kind c.args.cells.now c.args.level c.args.position c.args.root seen c.weigh_run-first.result.items c.weigh_run-first.ensures.items_are c.if-position-first.false (c.args.level + 1) step (omega (arith, c.if-after-inner.true, c.weigh_tree-inner.ensures.items_are)) c.split-halves.result c.split-halves.ensures;
       right = here.after;
-      back = far_ready g.K.Kind.kind c.args.cells.now c.args.level c.args.position c.args.root seen c.weigh-run-first.result.items c.weigh-run-first.ensures.items_are c.if-position-first.false (c.args.level + 1) step (omega (arith, c.if-after-inner.true, c.weigh-tree-inner.ensures.items_are)) c.split-halves.result c.split-halves.ensures;
-      fits = omega (arith, inner_fits g.K.Kind.kind c.args.cells.now c.args.level c.args.position c.args.root seen c.weigh-run-first.result.items c.weigh-run-first.ensures.items_are c.if-position-first.false (c.args.level + 1) step (omega (arith, c.if-after-inner.true, c.weigh-tree-inner.ensures.items_are)) c.split-halves.result c.split-halves.ensures, c.requires.fits);
+      back = far_ready g.K.Kind.kind c.args.cells.now c.args.level c.args.position c.args.root seen c.weigh_run-first.result.items c.weigh_run-first.ensures.items_are c.if-position-first.false (c.args.level + 1) step (omega (arith, c.if-after-inner.true, c.weigh_tree-inner.ensures.items_are)) c.split-halves.result c.split-halves.ensures;
+      fits = omega (arith, inner_fits g.K.Kind.kind c.args.cells.now c.args.level c.args.position c.args.root seen c.weigh_run-first.result.items c.weigh_run-first.ensures.items_are c.if-position-first.false (c.args.level + 1) step (omega (arith, c.if-after-inner.true, c.weigh_tree-inner.ensures.items_are)) c.split-halves.result c.split-halves.ensures, c.requires.fits);
     }
 
 pub returns-then-after-inner : goal.returns-then-after-inner
@@ -86,13 +86,13 @@ returns-then-after-inner g t c =
     let seen = c.in-Deep.ensures in
     let step : suc c.args.level ≡ c.args.level + 1 = omega arith in
     let sq = squares c.in-Deep.middle.levels c.args.root.levels seen.levels in
-    let l = left_levels g.K.Kind.kind c.args.cells.now c.args.level c.args.position c.args.root seen c.weigh-run-first.result.items c.weigh-run-first.ensures.items_are c.if-position-first.false (c.args.level + 1) step (omega (arith, c.if-after-inner.true, c.weigh-tree-inner.ensures.items_are)) c.split-halves.result c.split-halves.ensures in
-    let r = right_levels g.K.Kind.kind c.args.cells.now c.args.level c.args.position c.args.root seen c.weigh-run-first.result.items c.weigh-run-first.ensures.items_are c.if-position-first.false (c.args.level + 1) step (omega (arith, c.if-after-inner.true, c.weigh-tree-inner.ensures.items_are)) c.split-halves.result c.split-halves.ensures in
-    middle_done g.K.Kind.kind c.args.cells.now c.args.level c.args.position c.args.root seen c.weigh-run-first.result.items c.weigh-run-first.ensures.items_are c.if-position-first.false (c.args.level + 1) step (omega (arith, c.if-after-inner.true, c.weigh-tree-inner.ensures.items_are)) c.split-halves.result c.split-halves.ensures (c.args.root.levels * c.args.root.levels + c.args.root.levels) (omega (arith, sq, l, r)) c.halve-below.ensures
+    let l = left_levels g.K.Kind.kind c.args.cells.now c.args.level c.args.position c.args.root seen c.weigh_run-first.result.items c.weigh_run-first.ensures.items_are c.if-position-first.false (c.args.level + 1) step (omega (arith, c.if-after-inner.true, c.weigh_tree-inner.ensures.items_are)) c.split-halves.result c.split-halves.ensures in
+    let r = right_levels g.K.Kind.kind c.args.cells.now c.args.level c.args.position c.args.root seen c.weigh_run-first.result.items c.weigh_run-first.ensures.items_are c.if-position-first.false (c.args.level + 1) step (omega (arith, c.if-after-inner.true, c.weigh_tree-inner.ensures.items_are)) c.split-halves.result c.split-halves.ensures in
+    middle_done g.K.Kind.kind c.args.cells.now c.args.level c.args.position c.args.root seen c.weigh_run-first.result.items c.weigh_run-first.ensures.items_are c.if-position-first.false (c.args.level + 1) step (omega (arith, c.if-after-inner.true, c.weigh_tree-inner.ensures.items_are)) c.split-halves.result c.split-halves.ensures (c.args.root.levels * c.args.root.levels + c.args.root.levels) (omega (arith, sq, l, r)) c.halve_below.ensures
 
 -- the level is cut at its back
-pub cut-digit-cut-requires-in-Deep : goal.cut-digit-cut-requires-in-Deep
-cut-digit-cut-requires-in-Deep g t c =
+pub cut_digit-cut-requires-in-Deep : goal.cut_digit-cut-requires-in-Deep
+cut_digit-cut-requires-in-Deep g t c =
     let seen = c.in-Deep.ensures in
     let step : suc c.args.level ≡ c.args.level + 1 = omega arith in
     let m = ap (λ j. count (tree c.args.cells.now c.in-Deep.middle.levels j c.in-Deep.middle.at)) step in
@@ -100,20 +100,20 @@ cut-digit-cut-requires-in-Deep g t c =
     record {
       few = omega (arith, c.reversed.result.filled.1);
       formed = back_ready c.args.cells.now c.args.level c.args.root seen _ c.reversed.ensures;
-      within = omega (arith, n, m, seen.counts, c.requires.within, c.if-position-first.false, c.if-after-inner.false, c.weigh-run-first.ensures.items_are, c.weigh-tree-inner.ensures.items_are);
+      within = omega (arith, n, m, seen.counts, c.requires.within, c.if-position-first.false, c.if-after-inner.false, c.weigh_run-first.ensures.items_are, c.weigh_tree-inner.ensures.items_are);
     }
 
-pub halve-back-requires : goal.halve-back-requires
-halve-back-requires g t c =
+pub halve_back-requires : goal.halve_back-requires
+halve_back-requires g t c =
     let seen = c.in-Deep.ensures in
     let step : suc c.args.level ≡ c.args.level + 1 = omega arith in
     let sq = squares c.in-Deep.middle.levels c.args.root.levels seen.levels in
     let m = ap (λ j. count (tree c.args.cells.now c.in-Deep.middle.levels j c.in-Deep.middle.at)) step in
     let n = back_count c.args.cells.now c.args.level c.args.root seen _ c.reversed.ensures in
     let v = back_ready c.args.cells.now c.args.level c.args.root seen _ c.reversed.ensures in
-    let at = c.args.position - c.weigh-run-first.result.items - c.weigh-tree-inner.result.items in
-    let w = cut_known c.args.cells.now c.args.level at (listed c.reversed.result) v (omega (arith, n, m, seen.counts, c.requires.within, c.if-position-first.false, c.if-after-inner.false, c.weigh-run-first.ensures.items_are, c.weigh-tree-inner.ensures.items_are)) c.cut-digit-cut-in-Deep.result c.cut-digit-cut-in-Deep.ensures in
-    let s = cut_sums c.args.cells.now c.args.level at (listed c.reversed.result) v (omega (arith, n, m, seen.counts, c.requires.within, c.if-position-first.false, c.if-after-inner.false, c.weigh-run-first.ensures.items_are, c.weigh-tree-inner.ensures.items_are)) c.cut-digit-cut-in-Deep.result c.cut-digit-cut-in-Deep.ensures in
+    let at = c.args.position - c.weigh_run-first.result.items - c.weigh_tree-inner.result.items in
+    let w = cut_known c.args.cells.now c.args.level at (listed c.reversed.result) v (omega (arith, n, m, seen.counts, c.requires.within, c.if-position-first.false, c.if-after-inner.false, c.weigh_run-first.ensures.items_are, c.weigh_tree-inner.ensures.items_are)) c.cut_digit-cut-in-Deep.result c.cut_digit-cut-in-Deep.ensures in
+    let s = cut_sums c.args.cells.now c.args.level at (listed c.reversed.result) v (omega (arith, n, m, seen.counts, c.requires.within, c.if-position-first.false, c.if-after-inner.false, c.weigh_run-first.ensures.items_are, c.weigh_tree-inner.ensures.items_are)) c.cut_digit-cut-in-Deep.result c.cut_digit-cut-in-Deep.ensures in
     record {
       room = omega (arith, sq, c.requires.room);
       sound = c.requires.sound;
@@ -132,4 +132,4 @@ returns-else-after-inner g t c =
     let step : suc c.args.level ≡ c.args.level + 1 = omega arith in
     let sq = squares c.in-Deep.middle.levels c.args.root.levels seen.levels in
     let m = ap (λ j. count (tree c.args.cells.now c.in-Deep.middle.levels j c.in-Deep.middle.at)) step in
-    back_done g.K.Kind.kind c.args.cells.now c.args.level c.args.position c.args.root seen c.weigh-run-first.result.items c.weigh-run-first.ensures.items_are c.if-position-first.false c.weigh-tree-inner.result.items (c.weigh-tree-inner.ensures.items_are ∙ sym m) c.if-after-inner.false (listed c.reversed.result) c.reversed.ensures c.cut-digit-cut-in-Deep.result c.cut-digit-cut-in-Deep.ensures (c.args.root.levels * c.args.root.levels + c.args.root.levels) (omega (arith, sq)) c.halve-back.ensures
+    back_done g.K.Kind.kind c.args.cells.now c.args.level c.args.position c.args.root seen c.weigh_run-first.result.items c.weigh_run-first.ensures.items_are c.if-position-first.false c.weigh_tree-inner.result.items (c.weigh_tree-inner.ensures.items_are ∙ sym m) c.if-after-inner.false (listed c.reversed.result) c.reversed.ensures c.cut_digit-cut-in-Deep.result c.cut_digit-cut-in-Deep.ensures (c.args.root.levels * c.args.root.levels + c.args.root.levels) (omega (arith, sq)) c.halve_back.ensures

@@ -10,8 +10,8 @@ use Rattle.std.proofs.lemmas.List.{length-map}
 use Rattle.splits.proofs.Halving.{two_built, digit_of, tree_of_kept}
 use Rattle.splits.proofs.split.halve_back.Goals as goal
 
-pub tree-some-right-requires : goal.tree-some-right-requires
-tree-some-right-requires g c =
+pub tree_some-right-requires : goal.tree_some-right-requires
+tree_some-right-requires g c =
     let spent = c.trim-left.ensures.grown.spent in
     let e = keep_nodes c.trim-left.ensures.grown.extends c.args.level (listed_some c.args.cut.after) c.requires.after in
     record {
@@ -29,4 +29,4 @@ returns g c =
     let k = c.args.level in
     let short = some_length c.args.cut.before in
     let w = (trim_well q back k (nodes h k (listed_some c.args.cut.before)) (tree h c.args.middle.levels (suc k) c.args.middle.at) (nodes h k (listed c.args.front)) c.requires.before (simp length-map short) c.requires.middle (digit_of h k c.args.front c.requires.front)).0 in
-    two_built (c.args.middle.levels + 2) c.args.cut.finger c.args.cut.offset c.trim-left.ensures w (tree_of_kept q front c.trim-left.ensures.grown.extends (listed_some c.args.cut.after) c.requires.after c.tree-some-right.ensures) c.requires.here (omega arith)
+    two_built (c.args.middle.levels + 2) c.args.cut.finger c.args.cut.offset c.trim-left.ensures w (tree_of_kept q front c.trim-left.ensures.grown.extends (listed_some c.args.cut.after) c.requires.after c.tree_some-right.ensures) c.requires.here (omega arith)
