@@ -1,11 +1,9 @@
 -- What a chain of free cells gives at its head, and what is left of it once the head is taken. Assumes nothing.
-use Rattle.std.proofs.Common.{◌≡◌, ℕ, zero, suc, ◌+◌, ◌-◌, ◌<◌, ◌≤◌, Bool, true, false, cond, ◌≢◌, List, [], ◌∷◌, length, get_or, set, sym, refl, ap, ◌∙◌, subst, arith, length-set, get_or-set_other, get_or-set_same}
+use Rattle.std.proofs.Common.{◌≡◌, ℕ, zero, suc, ◌-◌, ◌<◌, Bool, true, false, cond, ◌≢◌, List, ◌∷◌, length, get_or, set, sym, refl, ap, ◌∙◌, subst, arith, length-set, get_or-set_other, get_or-set_same}
 use Rattle.std.proofs.lemmas.List.Sums.{sum_by-set}
 use Rattle.cells.specs.Cells.{blank, body, link, is_free}
-use Rattle.cells.specs.Chain.{Absent, chain, Linked, free_cells, Sound, Extends, Grown, Taken}
+use Rattle.cells.specs.Chain.{Absent, chain, Linked, free_cells, Sound, Extends, Taken}
 use Rattle.cells.specs.declared.cell.Cell.{Cell}
-use Rattle.cells.specs.declared.cell.Body.{Body}
-use Rattle.cells.specs.declared.cell.Body.TheVariants.{Free, Item, Two, Three, Single, Deep}
 use Rattle.cells.specs.declared.cell.FreeList.{FreeList}
 
 module _ {I T : Type 0} where

@@ -1,7 +1,6 @@
 -- The first few of four. Assumes nothing.
-use Rattle.std.proofs.Common.{◌≡◌, ℕ, zero, suc, ◌+◌, ◌-◌, ◌<◌, ◌≤◌, Bool, true, false, cond, leb, List, [], ◌∷◌, ◌++◌, length, get_or, take, Some, None, Option, sym, refl, ap, ◌∙◌, subst, arith, MatchOption}
-use Rattle.cells.specs.Fingers.{front_of, held, listed, listed_some}
-use Rattle.cells.specs.declared.fingers.Fingers.{Fingers}
+use Rattle.std.proofs.Common.{◌≡◌, ℕ, zero, suc, ◌+◌, ◌-◌, ◌<◌, ◌≤◌, List, [], ◌∷◌, ◌++◌, length, get_or, take, Some, None, Option, refl, ap, ◌∙◌, arith, MatchOption}
+use Rattle.cells.specs.Fingers.{front_of, listed, listed_some}
 use Rattle.cells.specs.declared.fingers.Digit.{Digit}
 
 pub first_more : (n a b c d e : ℕ) → n < 4 → take (n + 1) (a ∷ b ∷ c ∷ d ∷ []) ≡ a ∷ take n (b ∷ c ∷ d ∷ e ∷ [])

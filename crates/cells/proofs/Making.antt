@@ -1,21 +1,19 @@
 -- What a new cell reads as. Assumes nothing.
-use Rattle.std.proofs.Common.{◌≡◌, ℕ, zero, suc, ◌+◌, ◌-◌, ◌<◌, ◌≤◌, Bool, true, false, cond, eqb, List, [], ◌∷◌, map, length, get_or, sym, refl, ap, ◌∙◌, subst, arith}
+use Rattle.std.proofs.Common.{◌≡◌, ℕ, suc, ◌+◌, true, eqb, List, ap, ◌∙◌, arith}
 use Rattle.std.proofs.lemmas.Bool.Decides.{nat_tests}
-use Rattle.model.specs.Tree.{Node, leaf, two, three, gap, Tree, none, single, deep, torn, levels, count_node, count_run, count, front, back}
+use Rattle.model.specs.Tree.{single, deep, count_node, count_run, count, front, back}
 use Rattle.kinds.specs.Algebra.{Algebra}
 use Rattle.model.specs.Measures.{sum_node, sum_run, sum}
 use Rattle.model.specs.Ends.{make2, make3, make}
-use Rattle.model.specs.Forms.{FormedNode, Each, Digit, Formed}
-use Rattle.cells.specs.Cells.{blank, body, is_free, leaf_of, branch_of, node, nodes, level_of, tree}
+use Rattle.model.specs.Forms.{FormedNode, Each, Formed}
+use Rattle.cells.specs.Cells.{branch_of, node, nodes, level_of, tree}
 use Rattle.cells.specs.Fingers.{held}
-use Rattle.cells.specs.Chain.{Grown, Taken}
-use Rattle.cells.specs.Made.{Weighed, MadeNode, MadeTree}
+use Rattle.cells.specs.Chain.{Taken}
+use Rattle.cells.specs.Made.{MadeNode, MadeTree}
 use Rattle.cells.specs.declared.cell.Cell.{Cell}
 use Rattle.cells.specs.declared.cell.FreeList.{FreeList}
-use Rattle.cells.specs.declared.cell.Weight.{Weight}
 use Rattle.cells.specs.declared.fingers.Fingers.{Fingers}
-use Rattle.cells.specs.declared.cell.Body.{Body}
-use Rattle.cells.specs.declared.cell.Body.TheVariants.{Free, Item, Two, Three, Single, Deep}
+use Rattle.cells.specs.declared.cell.Body.TheVariants.{Two, Three, Single, Deep}
 use Rattle.cells.proofs.Frames.{keep_node, keep_nodes, keep_tree}
 
 module _ {I T Q : Type 0} (q : Algebra I T Q) {h h' : List (Cell I T)} {free free' : FreeList} {r : ℕ} (k : ℕ) where

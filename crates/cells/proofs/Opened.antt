@@ -2,12 +2,12 @@
 use Rattle.std.proofs.Common.{◌≡◌, ℕ, zero, suc, ◌+◌, ◌-◌, ◌<◌, ◌≤◌, Bool, true, false, cond, eqb, List, [], ◌∷◌, map, length, get_or, sym, refl, ap, ◌∙◌, subst, arith}
 use Rattle.std.proofs.lemmas.Bool.Decides.{nat_tests}
 use Rattle.std.proofs.lemmas.List.{length-map, get_or_read}
-use Rattle.model.specs.Tree.{Node, leaf, two, three, gap, Tree, none, single, deep, torn, levels, count_node, count_run, count, front, back}
+use Rattle.model.specs.Tree.{Node, two, three, Tree, none, single, deep, torn, levels, count_node, count_run, count, front, back}
 use Rattle.model.specs.Tree.{Side as End}
 use Rattle.kinds.specs.Algebra.{Algebra}
-use Rattle.model.specs.Measures.{sum_node, sum_run, sum, toward}
+use Rattle.model.specs.Measures.{sum_node, sum_run, toward}
 use Rattle.model.specs.Ends.{fingers}
-use Rattle.model.specs.Forms.{FormedNode, Each, Digit, Formed}
+use Rattle.model.specs.Forms.{FormedNode, Each, Formed}
 use Rattle.cells.specs.Cells.{blank, body, is_free, leaf_of, branch_of, node, nodes, level_of, tree}
 use Rattle.cells.specs.Fingers.{held, listed}
 use Rattle.cells.specs.Made.{Weighed, SeenDeep}

@@ -1,6 +1,5 @@
 -- The nodes and trees that cells stand for. Assumes nothing.
-use Rattle.std.specs.Prelude.{◌≡◌, ℕ, zero, suc, Bool, true, false, cond, List, [], ◌∷◌, map, length, ◌==◌, slice_index_or}
-use Rattle.kinds.specs.Algebra.{Algebra}
+use Rattle.std.specs.Prelude.{ℕ, zero, suc, Bool, true, false, cond, List, map, ◌==◌, slice_index_or}
 use Rattle.model.specs.Tree.{Node, leaf, two, three, gap, Tree, none, single, deep, torn}
 use Rattle.model.specs.Tree.{Side as End, front, back}
 use Rattle.cells.specs.Fingers.{held}

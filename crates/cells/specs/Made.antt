@@ -1,10 +1,8 @@
 -- What the making of a node or a tree promises. Assumes nothing.
-use Rattle.std.specs.Prelude.{◌≡◌, ℕ, zero, suc, ◌+◌, ◌<◌, ◌≤◌, List, [], ◌∷◌}
-use Rattle.model.specs.Tree.{Node, none, single, deep, Tree, count_node, count_run, count}
+use Rattle.std.specs.Prelude.{◌≡◌, ℕ, suc, ◌+◌, List}
+use Rattle.model.specs.Tree.{Node, none, single, deep, Tree, count_run, count}
 use Rattle.model.specs.Tree.{Side as End, front, back}
-use Rattle.kinds.specs.Algebra.{Algebra}
-use Rattle.model.specs.Measures.{sum_node, sum_run, sum}
-use Rattle.model.specs.Forms.{FormedNode, Each, Formed}
+use Rattle.model.specs.Forms.{Each, Formed}
 use Rattle.cells.specs.Cells.{node, nodes, tree}
 use Rattle.cells.specs.Fingers.{listed}
 use Rattle.cells.specs.Chain.{Grown}

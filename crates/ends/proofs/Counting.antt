@@ -1,5 +1,5 @@
 -- How many items a push leaves. Assumes nothing.
-use Rattle.std.proofs.Common.{◌≡◌, ℕ, zero, suc, ◌+◌, ◌<◌, ◌≤◌, List, [], ◌∷◌, length, sym, refl, ap, ◌∙◌, subst, arith}
+use Rattle.std.proofs.Common.{◌≡◌, ℕ, suc, ◌+◌, List, [], ◌∷◌, refl, ap, arith}
 use Rattle.model.specs.Tree.{Node, Tree, none, single, deep, torn, Side, front, back, count_node, count_run, count}
 use Rattle.kinds.specs.Algebra.{Algebra}
 use Rattle.model.specs.Ends.{three_at, deep_at, near, other, Fill, room, full, fill, grow, push}

@@ -1,27 +1,24 @@
 -- That a pop in cells is a pop. Assumes nothing.
-use Rattle.std.proofs.Common.{◌≡◌, ℕ, zero, suc, ◌+◌, ◌*◌, ◌^◌, ◌<◌, ◌≤◌, ◌⊎◌, List, [], ◌∷◌, ◌++◌, map, length, get_or, Some, None, Option, sym, refl, ap, ◌∙◌, subst, inl, inr, arith}
-use Rattle.std.proofs.lemmas.List.{length-map, map-append, length-append}
-use Rattle.model.specs.Tree.{Node, leaf, two, three, gap, Tree, none, single, deep, torn, Side, front, back, count_node, count_run, count, levels, items_node, items, along}
+use Rattle.std.proofs.Common.{◌≡◌, ℕ, suc, ◌+◌, ◌≤◌, List, [], ◌∷◌, ◌++◌, length, Some, None, Option, sym, refl, ap, ◌∙◌, subst, inl, inr, arith}
+use Rattle.std.proofs.lemmas.List.{length-map, map-append}
+use Rattle.model.specs.Tree.{Node, Tree, none, Side, front, back, count_run, count, levels, items_node, items}
 use Rattle.kinds.specs.Algebra.{Algebra}
-use Rattle.model.specs.Ends.{deep_at, other, tree_of, fingers, trim, take_near, pop, empty, got, push}
+use Rattle.model.specs.Ends.{deep_at, tree_of, trim, pop, empty, got}
 use Rattle.model.specs.Ends.{Popped as Taken}
-use Rattle.model.specs.Forms.{FormedNode, Each, Digit, Formed}
+use Rattle.model.specs.Forms.{Each, Formed}
 use Rattle.model.proofs.Forms.{count_is, count_node_is, length_along}
-use Rattle.model.proofs.Sides.{levels_deep_at}
-use Rattle.model.proofs.Popping.{Came, popped, fingers_formed}
+use Rattle.model.proofs.Popping.{Came, popped}
 use Rattle.cells.specs.Cells.{node, nodes, tree}
 use Rattle.cells.specs.Fingers.{listed}
-use Rattle.cells.specs.Chain.{Extends, Grown, Sound}
-use Rattle.cells.specs.Made.{MadeNode, MadeTree, deep_of, SeenDeep}
+use Rattle.cells.specs.Chain.{Grown, Sound}
+use Rattle.cells.specs.Made.{MadeTree, deep_of, SeenDeep}
 use Rattle.cells.specs.declared.cell.Cell.{Cell}
 use Rattle.cells.specs.declared.cell.Root.{Root}
 use Rattle.cells.specs.declared.cell.FreeList.{FreeList}
 use Rattle.cells.specs.declared.fingers.Digit.{Digit as Filled}
-use Rattle.cells.proofs.Frames.{keep_node, keep_nodes, keep_tree, extends_more, grown_more, grown_most}
+use Rattle.cells.proofs.Frames.{keep_node, keep_nodes, grown_more}
 use Rattle.cells.proofs.Opened.{levels_read, tree_none}
-use Rattle.cells.proofs.Fours.{listed_length}
 use Rattle.ends.specs.Pops.{popped_of, PoppedWell, popped_levels, count_popped, MadePop}
-use Rattle.cells.specs.Fingers.{listed_some}
 use Rattle.ends.specs.declared.pop.Popped.{Popped}
 use Rattle.ends.proofs.Pushing.{made_as}
 

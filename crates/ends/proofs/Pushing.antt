@@ -1,21 +1,21 @@
 -- That a push in cells is a push. Assumes nothing.
-use Rattle.std.proofs.Common.{◌≡◌, ℕ, zero, suc, ◌+◌, ◌-◌, ◌*◌, ◌^◌, ◌<◌, ◌≤◌, ◌⊎◌, List, [], ◌∷◌, length, get_or, sym, refl, ap, ◌∙◌, subst, inl, inr, arith}
+use Rattle.std.proofs.Common.{◌≡◌, ℕ, suc, ◌+◌, ◌-◌, ◌*◌, ◌<◌, ◌≤◌, List, [], ◌∷◌, length, get_or, sym, refl, ap, ◌∙◌, subst, inl, inr, arith}
 use Rattle.std.proofs.lemmas.List.{length-map}
 use Rattle.model.specs.Tree.{Node, Tree, none, single, deep, torn, Side, front, back, count_node, count_run, count, levels}
 use Rattle.kinds.specs.Algebra.{Algebra}
-use Rattle.model.specs.Ends.{three_at, deep_at, near, other, Fill, room, full, fill, grow, push}
-use Rattle.model.specs.Forms.{FormedNode, Each, Digit, Formed}
+use Rattle.model.specs.Ends.{three_at, deep_at, push}
+use Rattle.model.specs.Forms.{FormedNode, Each, Formed}
 use Rattle.model.proofs.Sides.{levels_deep_at, formed_three_at}
 use Rattle.model.proofs.Pushing.{push_formed, push_levels}
 use Rattle.cells.specs.Cells.{node, nodes, tree}
 use Rattle.cells.specs.Fingers.{listed, front_of}
-use Rattle.cells.specs.Chain.{Extends, Grown}
+use Rattle.cells.specs.Chain.{Extends}
 use Rattle.cells.specs.Made.{MadeNode, MadeTree, deep_of, SeenDeep}
 use Rattle.cells.specs.declared.cell.Cell.{Cell}
 use Rattle.cells.specs.declared.cell.Root.{Root}
 use Rattle.cells.specs.declared.cell.FreeList.{FreeList}
 use Rattle.cells.specs.declared.fingers.Digit.{Digit as Filled}
-use Rattle.cells.proofs.Frames.{keep_node, keep_nodes, keep_tree, extends_more, grown_more, grown_most}
+use Rattle.cells.proofs.Frames.{keep_nodes, keep_tree, extends_more, grown_more, grown_most}
 use Rattle.cells.proofs.Opened.{levels_read, tree_none}
 use Rattle.cells.proofs.Fours.{listed_length}
 use Rattle.ends.proofs.Counting.{push_count, count_three_at}

@@ -1,14 +1,12 @@
 -- What a pop gives. Assumes nothing.
-use Rattle.std.specs.Prelude.{◌≡◌, ℕ, zero, suc, ◌+◌, List, [], ◌∷◌, Some, None, Option}
-use Rattle.model.specs.Tree.{Node, Tree, count_node, count}
+use Rattle.std.specs.Prelude.{◌≡◌, ℕ, ◌+◌, List, Some, None, Option}
+use Rattle.model.specs.Tree.{count_node, count}
 use Rattle.model.specs.Ends.{Popped as Taken, empty, got}
 use Rattle.model.specs.Forms.{FormedNode, Formed}
 use Rattle.cells.specs.Cells.{node, tree}
 use Rattle.cells.specs.Chain.{Grown}
-use Rattle.cells.specs.Fingers.{listed}
 use Rattle.cells.specs.declared.cell.Cell.{Cell}
 use Rattle.cells.specs.declared.cell.FreeList.{FreeList}
-use Rattle.cells.specs.declared.fingers.Digit.{Digit}
 use Rattle.ends.specs.declared.pop.Popped.{Popped}
 
 abbrev pub popped_levels : Option Popped → ℕ

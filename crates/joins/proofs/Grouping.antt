@@ -1,18 +1,17 @@
 -- That nodes made of a row are the groups of it. Assumes nothing.
-use Rattle.std.proofs.Common.{◌≡◌, ℕ, zero, suc, ◌+◌, ◌*◌, ◌^◌, ◌<◌, ◌≤◌, List, [], ◌∷◌, ◌++◌, length, get_or, sym, refl, ap, ◌∙◌, subst, arith}
+use Rattle.std.proofs.Common.{◌≡◌, ℕ, suc, ◌+◌, ◌*◌, ◌≤◌, List, [], ◌∷◌, length, sym, refl, ap, ◌∙◌, subst, arith}
 use Rattle.std.proofs.lemmas.List.{length-map}
 use Rattle.model.proofs.Appending.{group_short}
-use Rattle.model.specs.Tree.{Node, Tree, count_node, count_run}
+use Rattle.model.specs.Tree.{count_node, count_run}
 use Rattle.kinds.specs.Algebra.{Algebra}
 use Rattle.model.specs.Ends.{make2, make3}
 use Rattle.model.specs.Append.{group}
 use Rattle.model.specs.Forms.{FormedNode, Each}
 use Rattle.cells.specs.Cells.{node, nodes}
-use Rattle.cells.specs.Chain.{Extends, Grown}
 use Rattle.cells.specs.Made.{MadeNode}
 use Rattle.cells.specs.declared.cell.Cell.{Cell}
 use Rattle.cells.specs.declared.cell.FreeList.{FreeList}
-use Rattle.cells.proofs.Frames.{keep_node, keep_nodes, grown_more, grown_most}
+use Rattle.cells.proofs.Frames.{keep_node, keep_nodes, grown_more}
 use Rattle.cells.specs.Made.{MadeRun}
 
 module _ {I T Q : Type 0} (q : Algebra I T Q) (h : List (Cell I T)) (k : ℕ) where

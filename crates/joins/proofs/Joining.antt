@@ -1,11 +1,11 @@
 -- That an append in cells is an append. Assumes nothing.
-use Rattle.std.proofs.Common.{◌≡◌, ℕ, zero, suc, ◌+◌, ◌*◌, ◌^◌, ◌<◌, ◌≤◌, List, [], ◌∷◌, ◌++◌, map, length, sym, refl, ap, ◌∙◌, subst, mul-le-mul_right, arith, length-append}
+use Rattle.std.proofs.Common.{◌≡◌, ℕ, suc, ◌+◌, ◌*◌, ◌≤◌, List, [], ◌∷◌, ◌++◌, length, sym, refl, ap, ◌∙◌, subst, mul-le-mul_right, arith, length-append}
 use Rattle.std.proofs.lemmas.List.{length-map, map-append}
-use Rattle.model.specs.Tree.{Node, Tree, none, single, deep, torn, Side, front, back, run, items, count_node, count_run, count, levels}
+use Rattle.model.specs.Tree.{Node, Tree, none, single, deep, front, back, run, items, count_run, count, levels}
 use Rattle.kinds.specs.Algebra.{Algebra}
-use Rattle.model.specs.Ends.{push, make}
+use Rattle.model.specs.Ends.{make}
 use Rattle.model.specs.Append.{onto, pushed, group, append}
-use Rattle.model.specs.Forms.{FormedNode, Each, Formed}
+use Rattle.model.specs.Forms.{Each, Formed}
 use Rattle.model.proofs.Forms.{count_is, count_run_is}
 use Rattle.model.proofs.Appending.{each_append, each_onto, group_formed, group_items, append_formed, append_items}
 use Rattle.cells.specs.Cells.{node, nodes, tree}

@@ -1,5 +1,5 @@
 -- Pushes one after another. Assumes nothing.
-use Rattle.std.proofs.Common.{◌≡◌, ℕ, zero, suc, ◌+◌, ◌-◌, ◌*◌, ◌^◌, ◌<◌, ◌≤◌, ◌⊎◌, List, [], ◌∷◌, ◌++◌, length, sym, refl, ap, ◌∙◌, subst, inl, inr, suc-mul, mul-le-mul_left, mul-suc, arith}
+use Rattle.std.proofs.Common.{◌≡◌, ℕ, suc, ◌+◌, ◌-◌, ◌*◌, ◌≤◌, List, [], ◌∷◌, length, sym, ap, ◌∙◌, subst, inl, inr, suc-mul, mul-le-mul_left, arith}
 use Rattle.model.specs.Tree.{Node, Tree, Side, count_node, count_run, count, levels}
 use Rattle.kinds.specs.Algebra.{Algebra}
 use Rattle.model.specs.Ends.{push}
@@ -14,7 +14,7 @@ use Rattle.cells.specs.declared.cell.Root.{Root}
 use Rattle.cells.specs.declared.cell.FreeList.{FreeList}
 use Rattle.cells.proofs.Frames.{keep_node, grown_more}
 use Rattle.ends.proofs.Counting.{push_count}
-use Rattle.ends.proofs.Pushing.{made_levels, made_as}
+use Rattle.ends.proofs.Pushing.{made_levels}
 
 module _ {I T Q : Type 0} (q : Algebra I T Q) (s : Side) where
   push_deeper : (k : ℕ) (x : Node I T) (t : Tree I T) → Formed k t → levels t ≤ levels (push q s x t)

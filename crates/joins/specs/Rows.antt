@@ -1,10 +1,5 @@
 -- Rows of fingers. Assumes nothing.
-use Rattle.std.specs.Prelude.{◌≡◌, ℕ, List, [], ◌∷◌, ◌++◌}
-use Rattle.model.specs.Tree.{Node}
-use Rattle.cells.specs.Cells.{nodes}
-use Rattle.cells.specs.Chain.{Grown}
-use Rattle.cells.specs.declared.cell.Cell.{Cell}
-use Rattle.cells.specs.declared.cell.FreeList.{FreeList}
+use Rattle.std.specs.Prelude.{ℕ, List, ◌++◌}
 use Rattle.cells.specs.Fingers.{listed_some}
 use Rattle.joins.specs.declared.row.Row.{Row}
 

@@ -1,8 +1,8 @@
 -- The most levels for so many items. Assumes nothing.
-use Rattle.std.proofs.Common.{◌≡◌, ℕ, zero, suc, ◌+◌, ◌-◌, ◌*◌, ◌/◌, ◌^◌, ◌<◌, ◌≤◌, Bool, true, false, cond, leb, length, sym, refl, ap, ◌∙◌, ⊎_elim, mul_assoc, mul_comm, arith, pow_mono}
-use native.Mathlib.Nat.{pow-succ'}
+use Rattle.std.proofs.Common.{◌≡◌, ℕ, zero, suc, ◌+◌, ◌*◌, ◌^◌, ◌<◌, ◌≤◌, Bool, true, false, cond, leb, length, sym, refl, ap, ◌∙◌, ⊎_elim, mul_assoc, mul_comm, arith, pow_mono}
+use Rattle.std.proofs.Math.Nat.{pow-succ'}
 use Rattle.std.proofs.lemmas.Bool.{leb-true, leb-false, cases_lt}
-use Rattle.model.specs.Tree.{Tree, formed, items}
+use Rattle.model.specs.Tree.{items}
 use Rattle.model.specs.Levels.{doublings, most_levels, MostIsLargest, LevelsWithin}
 use Rattle.model.proofs.Bounds.{fewest_items}
 

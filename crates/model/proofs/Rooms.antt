@@ -1,5 +1,5 @@
 -- The right part of a split has space in front, so that a push there makes no level more. Assumes nothing.
-use Rattle.std.proofs.Common.{ℕ, zero, suc, ◌+◌, ◌-◌, ◌<◌, ◌≤◌, ltb, List, [], ◌∷◌, length, arith}
+use Rattle.std.proofs.Common.{ℕ, ◌-◌, ◌<◌, ◌≤◌, ltb, List, [], ◌∷◌, length, arith}
 use Rattle.kinds.specs.Algebra.{Algebra}
 use Rattle.model.specs.Tree.{Node, leaf, two, three, gap, Tree, none, single, deep, torn, front, back, count_node, count_run, count, items, levels}
 use Rattle.model.specs.Ends.{push, tree_of, fingers, Popped, empty, got, trim, pop}

@@ -1,6 +1,6 @@
 -- Two trees with loose nodes between them as one. Assumes nothing.
 use Rattle.std.specs.Prelude.{List, [], ◌∷◌, ◌++◌}
-use Rattle.model.specs.Tree.{Node, two, Tree, none, single, deep, torn, Side, front, back}
+use Rattle.model.specs.Tree.{Node, Tree, none, single, deep, torn, Side, front, back}
 use Rattle.kinds.specs.Algebra.{Algebra}
 use Rattle.model.specs.Ends.{make2, make3, make, push}
 

@@ -1,5 +1,5 @@
 -- How many levels a tree of n items may have. Assumes nothing.
-use Rattle.std.specs.Prelude.{◌≡◌, ℕ, zero, suc, ◌+◌, ◌*◌, ◌^◌, ◌<◌, ◌≤◌, true, cond, length, nat_le}
+use Rattle.std.specs.Prelude.{◌≡◌, ℕ, zero, suc, ◌+◌, ◌*◌, ◌^◌, ◌≤◌, true, cond, length, nat_le}
 use Rattle.model.specs.Tree.{Tree, formed, items}
 
 -- How many of p, 2 p, 4 p and so on are at most m; the first number bounds them.

@@ -1,5 +1,5 @@
 -- The first item by which a question is met, and what stands before it. Assumes nothing.
-use Rattle.std.specs.Prelude.{◌≡◌, ℕ, suc, ◌+◌, ◌<◌, true, false, List, [], ◌∷◌, length, take, slice_index_or}
+use Rattle.std.specs.Prelude.{◌≡◌, ℕ, suc, ◌<◌, true, false, List, [], ◌∷◌, length, take, slice_index_or}
 use Rattle.kinds.specs.Algebra.{Algebra}
 use Rattle.model.specs.Measures.{total}
 use Rattle.model.specs.Split.{choose}

@@ -1,8 +1,8 @@
-use Rattle.std.proofs.Common.{◌≡◌, ℕ, suc, ◌+◌, refl, ap, ◌∙◌, subst, arith}
-use Rattle.model.specs.Tree.{count, count_run}
+use Rattle.std.proofs.Common.{◌≡◌, ℕ, suc, ◌+◌, refl, ap, subst, arith}
+use Rattle.model.specs.Tree.{count}
 use Rattle.model.specs.Measures.{sum}
 use Rattle.model.specs.Forms.{Formed}
-use Rattle.cells.specs.Cells.{tree, nodes}
+use Rattle.cells.specs.Cells.{tree}
 use Rattle.cells.proofs.Making.{made_deep}
 use Rattle.cells.proofs.build.make_deep.Goals as goal
 

@@ -1,4 +1,4 @@
-use Rattle.std.proofs.Common.{ap, ◌∙◌, arith}
+use Rattle.std.proofs.Common.{arith}
 use Rattle.cells.proofs.Making.{made_three}
 use Rattle.cells.proofs.build.make_three.Goals as goal
 

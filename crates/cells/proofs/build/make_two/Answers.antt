@@ -1,4 +1,4 @@
-use Rattle.std.proofs.Common.{ap, ◌∙◌, arith}
+use Rattle.std.proofs.Common.{arith}
 use Rattle.cells.proofs.Making.{made_two}
 use Rattle.cells.proofs.build.make_two.Goals as goal
 

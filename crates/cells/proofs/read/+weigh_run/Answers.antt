@@ -1,10 +1,10 @@
-use Rattle.std.proofs.Common.{◌≡◌, ◌^◌, ◌<◌, ◌≤◌, length, sym, refl, ap, ◌∙◌, subst, arith, rules}
+use Rattle.std.proofs.Common.{◌^◌, ◌<◌, ◌≤◌, length, sym, ap, subst, arith, rules}
 use Rattle.model.specs.Tree.{count_run}
 use Rattle.model.specs.Forms.{Each, FormedNode}
-use Rattle.cells.specs.Cells.{node, nodes, end}
+use Rattle.cells.specs.Cells.{node, nodes}
 use Rattle.cells.specs.Fingers.{listed}
 use Rattle.cells.proofs.Fours.{listed_length}
-use Rattle.cells.proofs.Opened.{each_first, run_more}
+use Rattle.cells.proofs.Opened.{each_first}
 use Rattle.cells.proofs.read.+weigh_run.Goals as goal
 
 pub weigh-first-requires : goal.weigh-first-requires

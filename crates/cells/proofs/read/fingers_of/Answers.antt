@@ -1,4 +1,4 @@
-use Rattle.std.proofs.Common.{◌≡◌, suc, ◌<◌, length, sym, refl, ap, ◌∙◌, arith, rules}
+use Rattle.std.proofs.Common.{suc, ◌<◌, length, sym, ap, ◌∙◌, rules}
 use Rattle.cells.specs.Cells.{nodes, end}
 use Rattle.cells.proofs.Opened.{read_body, node_within, no_item, two_fingers, three_fingers}
 use Rattle.cells.proofs.read.fingers_of.Goals as goal

@@ -1,4 +1,4 @@
-use Rattle.std.proofs.Common.{◌≡◌, sym, ap, ◌∙◌, rules}
+use Rattle.std.proofs.Common.{sym, ap, ◌∙◌, rules}
 use Rattle.cells.specs.Cells.{leaf_of, node}
 use Rattle.cells.proofs.Opened.{node_within, read_body, only_item}
 use Rattle.cells.proofs.read.read_item.Goals as goal

@@ -1,8 +1,8 @@
-use Rattle.std.proofs.Common.{◌<◌, sym, refl, ap, ◌∙◌, subst, arith, rules}
+use Rattle.std.proofs.Common.{sym, refl, ap, ◌∙◌, subst, arith, rules}
 use Rattle.model.specs.Measures.{sum}
 use Rattle.model.specs.Tree.{count}
 use Rattle.model.specs.Forms.{Formed}
-use Rattle.cells.proofs.Opened.{read_body, tree_none, tree_within, tree_single, tree_deep, tree_digits, tree_other}
+use Rattle.cells.proofs.Opened.{read_body, tree_none, tree_within, tree_single, tree_deep, tree_other}
 use Rattle.cells.proofs.read.weigh_tree.Goals as goal
 
 pub returns-then-root-eq0 : goal.returns-then-root-eq0

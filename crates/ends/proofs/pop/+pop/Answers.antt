@@ -2,7 +2,7 @@ use Rattle.std.proofs.Common.{◌≡◌, suc, ◌+◌, ◌<◌, ◌≤◌, [], �
 use Rattle.model.specs.Tree.{count}
 use Rattle.model.specs.Forms.{Formed}
 use Rattle.model.specs.Ends.{pop}
-use Rattle.cells.specs.Cells.{end, node, nodes, tree}
+use Rattle.cells.specs.Cells.{end, tree}
 use Rattle.cells.specs.Fingers.{listed}
 use Rattle.cells.proofs.Opened.{tree_none}
 use Rattle.cells.proofs.Fours.{listed_length}

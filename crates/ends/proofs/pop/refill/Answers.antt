@@ -1,4 +1,4 @@
-use Rattle.std.proofs.Common.{◌≡◌, suc, ◌+◌, ◌<◌, ◌≤◌, sym, refl, ap, ◌∙◌, subst, arith}
+use Rattle.std.proofs.Common.{suc, sym, ap, subst, arith}
 use Rattle.model.specs.Tree.{count_run}
 use Rattle.model.specs.Forms.{Each}
 use Rattle.model.proofs.Popping.{fingers_formed}

@@ -1,7 +1,7 @@
-use Rattle.std.proofs.Common.{◌≡◌, suc, ◌+◌, ◌-◌, ◌<◌, ◌≤◌, [], ◌∷◌, ◌++◌, length, get_or, sym, refl, ap, ◌∙◌, subst, arith, length-append}
+use Rattle.std.proofs.Common.{◌≡◌, suc, ◌-◌, [], ◌∷◌, ◌++◌, length, get_or, refl, ap, ◌∙◌, subst, arith, length-append}
 use Rattle.model.specs.Tree.{count, count_run}
 use Rattle.model.specs.Forms.{Each}
-use Rattle.cells.specs.Cells.{end, node, nodes, tree}
+use Rattle.cells.specs.Cells.{end, nodes}
 use Rattle.cells.specs.Fingers.{listed}
 use Rattle.cells.proofs.Opened.{tree_none}
 use Rattle.cells.proofs.Fours.{listed_length}

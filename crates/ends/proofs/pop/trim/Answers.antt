@@ -1,7 +1,7 @@
-use Rattle.std.proofs.Common.{◌≡◌, suc, ◌+◌, ◌<◌, ◌≤◌, [], ◌∷◌, length, sym, refl, ap, ◌∙◌, subst, arith, rules}
+use Rattle.std.proofs.Common.{◌≡◌, suc, ◌+◌, ◌≤◌, length, ap, subst, arith}
 use Rattle.model.specs.Tree.{count}
 use Rattle.model.specs.Forms.{Formed}
-use Rattle.cells.specs.Cells.{end, node, nodes, tree}
+use Rattle.cells.specs.Cells.{end, tree}
 use Rattle.cells.specs.Fingers.{listed}
 use Rattle.cells.proofs.Fours.{listed_length}
 use Rattle.ends.proofs.Popping.{below_well, below_shallow, far_ready, refill_count, emptied, trimmed_near}

@@ -1,9 +1,7 @@
-use Rattle.std.proofs.Common.{◌≡◌, suc, ◌+◌, ◌^◌, ◌<◌, ◌≤◌, [], ◌∷◌, length, sym, refl, ap, ◌∙◌, subst, arith, rules}
+use Rattle.std.proofs.Common.{◌≡◌, suc, ◌+◌, ◌<◌, refl, ap, subst, arith, rules}
 use Rattle.model.specs.Tree.{count, count_run}
-use Rattle.model.specs.Forms.{Each, Formed, FormedNode}
-use Rattle.cells.specs.Cells.{end, node, nodes, tree}
-use Rattle.cells.specs.Chain.{Sound}
-use Rattle.cells.specs.Fingers.{listed}
+use Rattle.model.specs.Forms.{Formed}
+use Rattle.cells.specs.Cells.{end, nodes}
 use Rattle.cells.proofs.Opened.{tree_none}
 use Rattle.ends.proofs.Pushing.{push_some, full_levels, below_some, below_exact, four_listed, push_empty, push_single, push_roomy, fingers_formed, fingers_count, middle_ready, three_ready, carried_count, near_ready, far_ready, below_ready, below_levels, level_count, push_fuller}
 use Rattle.ends.proofs.push.+push.Goals as goal

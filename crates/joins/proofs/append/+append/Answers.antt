@@ -1,8 +1,8 @@
-use Rattle.std.proofs.Common.{◌≡◌, suc, ◌+◌, ◌*◌, ◌<◌, ◌≤◌, [], ◌∷◌, ◌++◌, length, Some, sym, refl, ap, ◌∙◌, subst, arith, rules}
-use Rattle.model.specs.Tree.{levels, front, back, count_run, count}
-use Rattle.model.specs.Append.{onto, pushed, append, group}
+use Rattle.std.proofs.Common.{◌≡◌, suc, ◌+◌, ◌<◌, ◌≤◌, [], ◌∷◌, ◌++◌, length, Some, ap, subst, arith, rules}
+use Rattle.model.specs.Tree.{levels, count}
+use Rattle.model.specs.Append.{onto}
 use Rattle.model.specs.Forms.{Formed}
-use Rattle.cells.specs.Cells.{end, node, nodes, tree}
+use Rattle.cells.specs.Cells.{nodes, tree}
 use Rattle.cells.specs.Fingers.{listed}
 use Rattle.cells.proofs.Fours.{listed_length}
 use Rattle.cells.specs.Fingers.{listed_some}

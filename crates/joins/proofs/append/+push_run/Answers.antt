@@ -1,6 +1,6 @@
-use Rattle.std.proofs.Common.{◌≡◌, suc, ◌+◌, ◌*◌, ◌<◌, ◌≤◌, [], ◌∷◌, length, get_or, sym, refl, ap, ◌∙◌, subst, arith, rules}
+use Rattle.std.proofs.Common.{◌≡◌, ◌*◌, ◌<◌, ◌∷◌, length, get_or, sym, ap, ◌∙◌, arith, rules}
 use Rattle.model.specs.Append.{pushed}
-use Rattle.cells.specs.Cells.{end, node, nodes, tree}
+use Rattle.cells.specs.Cells.{end, nodes, tree}
 use Rattle.cells.specs.Fingers.{listed}
 use Rattle.cells.specs.Fingers.{listed_some}
 use Rattle.ends.proofs.Popping.{grown_none}

@@ -1,5 +1,5 @@
-use Rattle.std.proofs.Common.{◌≡◌, suc, ◌+◌, ◌*◌, ◌<◌, ◌≤◌, [], ◌∷◌, sym, refl, ap, ◌∙◌, subst, arith}
-use Rattle.cells.specs.Cells.{end, node, nodes, tree}
+use Rattle.std.proofs.Common.{◌∷◌, refl, arith}
+use Rattle.cells.specs.Cells.{end}
 use Rattle.cells.specs.Fingers.{listed_some}
 use Rattle.joins.proofs.Runs.{others_ready, others_count, others_levels, others_room, others_depth, next_room, next_formed, first_ready, next_count, pushed_all}
 use Rattle.joins.proofs.append.push_after.Goals as goal

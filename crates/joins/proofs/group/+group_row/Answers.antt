@@ -1,5 +1,4 @@
-use Rattle.std.proofs.Common.{◌≡◌, suc, ◌+◌, ◌<◌, ◌≤◌, length, sym, refl, ap, ◌∙◌, subst, arith, rules}
-use Rattle.cells.specs.Fingers.{listed}
+use Rattle.std.proofs.Common.{◌<◌, length, sym, ◌∙◌, arith, rules}
 use Rattle.joins.specs.Rows.{in_row}
 use Rattle.joins.proofs.Rows.{row_length}
 use Rattle.joins.proofs.Grouping.{made_pair, made_triple, row_lengths, rest_ready, rest_count, others_few, made_more, third_ready, fourth_ready, pair_count, made_pairs}
