@@ -1,5 +1,5 @@
 -- One list after another. Assumes nothing.
-use Rattle.std.proofs.Common.{◌≡◌, ℕ, ◌+◌, ◌*◌, ◌^◌, ◌<◌, ◌≤◌, List, [], ◌∷◌, ◌++◌, length, sym, refl, ap, ◌∙◌, arith, length-append}
+use Rattle.std.proofs.Common.{◌≡◌, ◌+◌, ◌*◌, ◌^◌, ◌<◌, ◌≤◌, List, [], ◌++◌, length, arith, length-append}
 use Rattle.kinds.specs.Algebra.{Algebra, Laws}
 use Rattle.model.specs.Tree.{items, levels}
 use Rattle.model.specs.Append.{append}

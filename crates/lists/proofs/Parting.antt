@@ -1,5 +1,5 @@
 -- A list in two. Assumes nothing.
-use Rattle.std.proofs.Common.{◌≡◌, ℕ, zero, suc, ◌+◌, ◌-◌, ◌*◌, ◌^◌, ◌<◌, ◌≤◌, List, [], ◌∷◌, length, get_or, take, drop, sym, refl, ap, ◌∙◌, subst, ap₂, arith, length-drop, drop-cons}
+use Rattle.std.proofs.Common.{◌≡◌, ℕ, suc, ◌+◌, ◌-◌, ◌*◌, ◌^◌, ◌<◌, ◌≤◌, List, ◌∷◌, length, take, drop, sym, refl, ap, ◌∙◌, subst, arith, length-drop, drop-cons}
 use Rattle.kinds.specs.Algebra.{Algebra, Laws}
 use Rattle.model.specs.Tree.{Node, leaf, two, three, gap, Tree, front, count_node, count, items_node, items, levels}
 use Rattle.model.specs.Ends.{push}
@@ -12,7 +12,7 @@ use Rattle.model.proofs.Forms.{decides_formed, count_is}
 use Rattle.model.proofs.Pushing.{push_formed, push_items, push_measures}
 use Rattle.model.proofs.Rooms.{Pushes, split_pushes}
 use Rattle.model.proofs.Splitting.{split_keeps, split_measures}
-use Rattle.cells.specs.Cells.{node, tree}
+use Rattle.cells.specs.Cells.{node}
 use Rattle.cells.specs.Made.{MadeTree}
 use Rattle.cells.specs.declared.cell.Cell.{Cell}
 use Rattle.cells.specs.declared.cell.FreeList.{FreeList}

@@ -1,5 +1,5 @@
 -- One item more or fewer. Assumes nothing.
-use Rattle.std.proofs.Common.{◌≡◌, ℕ, suc, ◌+◌, ◌-◌, ◌*◌, ◌^◌, ◌<◌, ◌≤◌, true, List, [], ◌∷◌, length, Some, None, sym, refl, ap, ◌∙◌, subst, ap₂, arith}
+use Rattle.std.proofs.Common.{◌≡◌, ℕ, ◌+◌, ◌-◌, ◌*◌, ◌^◌, ◌<◌, ◌≤◌, true, List, [], ◌∷◌, length, Some, None, sym, refl, ap, ◌∙◌, subst, ap₂, arith}
 use Rattle.kinds.specs.Algebra.{Algebra, Laws}
 use Rattle.model.specs.Tree.{leaf, Side, along, count, count_node, items_node, items, levels}
 use Rattle.model.specs.Ends.{push, pop, got}
@@ -9,7 +9,7 @@ use Rattle.model.proofs.Forms.{length_along}
 use Rattle.model.proofs.Pushing.{push_formed, push_items, push_measures}
 use Rattle.model.proofs.Popping.{Came, Carried, popped, pop_weighed}
 use Rattle.model.proofs.Totals.{WeighedNode, weighed, sound}
-use Rattle.cells.specs.Cells.{leaf_of, node, tree}
+use Rattle.cells.specs.Cells.{leaf_of, node}
 use Rattle.cells.specs.Chain.{Taken}
 use Rattle.cells.specs.Made.{MadeTree}
 use Rattle.cells.specs.declared.cell.Body.TheVariants.{Item}

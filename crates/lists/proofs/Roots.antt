@@ -1,5 +1,5 @@
 -- Roots that are whole. Assumes nothing.
-use Rattle.std.proofs.Common.{◌≡◌, ℕ, suc, ◌+◌, ◌-◌, ◌*◌, ◌^◌, ◌<◌, ◌≤◌, List, length, sym, refl, ap, ◌∙◌, subst, ⊎_elim, arith, pow_mono}
+use Rattle.std.proofs.Common.{◌≡◌, ℕ, suc, ◌+◌, ◌-◌, ◌^◌, ◌<◌, ◌≤◌, List, length, sym, refl, ap, ◌∙◌, subst, ⊎_elim, arith, pow_mono}
 use Rattle.std.proofs.lemmas.Bool.{cases_lt}
 use Rattle.kinds.specs.Algebra.{Algebra}
 use Rattle.model.specs.Tree.{Tree, count, items, levels}
@@ -8,7 +8,6 @@ use Rattle.model.specs.Levels.{most_levels}
 use Rattle.model.specs.Statements.{Sound}
 use Rattle.model.proofs.Forms.{decides_formed, count_is}
 use Rattle.model.proofs.Doubling.{most_is_largest, levels_within}
-use Rattle.cells.specs.Cells.{tree}
 use Rattle.cells.specs.Chain.{Extends}
 use Rattle.cells.specs.Made.{MadeTree}
 use Rattle.cells.specs.declared.cell.Cell.{Cell}

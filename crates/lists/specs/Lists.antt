@@ -1,5 +1,5 @@
 -- A root as the list that it stands for, and what each operation on it leaves. Assumes nothing.
-use Rattle.std.specs.Prelude.{◌≡◌, ℕ, ◌+◌, ◌*◌, true, List, [], ◌∷◌, length, take, drop, Some, None, Option}
+use Rattle.std.specs.Prelude.{◌≡◌, ℕ, true, List, [], ◌∷◌, length, take, drop, Some, None, Option}
 use Rattle.kinds.specs.Algebra.{Algebra}
 use Rattle.model.specs.Tree.{Tree, Side, along, formed, items}
 use Rattle.model.specs.Seek.{Sought, missed, found, seek}

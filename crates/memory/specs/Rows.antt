@@ -1,5 +1,5 @@
 -- The checks of a call, in the order in which they are made. Assumes nothing.
-use Rattle.std.specs.Prelude.{Bool, true, false, cond, List, [], ◌∷◌, Some, Ok, Err, Result}
+use Rattle.std.specs.Prelude.{Bool, cond, List, [], ◌∷◌, Some, Ok, Err, Result}
 use Rattle.cells.specs.declared.cell.Root.{Root}
 use Rattle.sweep.specs.declared.version.Version.{Version}
 use Rattle.memory.specs.declared.check.Check.{Check}

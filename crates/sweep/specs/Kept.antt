@@ -1,4 +1,4 @@
-use Rattle.std.specs.Prelude.{◌≡◌, ℕ, List, Some, None, Option, slice_index_or}
+use Rattle.std.specs.Prelude.{◌≡◌, ℕ, List, Some, None, slice_index_or}
 use Rattle.cells.specs.declared.cell.Root.{Root}
 use Rattle.sweep.specs.declared.version.Version.{Version}
 

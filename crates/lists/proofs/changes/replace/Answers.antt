@@ -1,4 +1,4 @@
-use Rattle.std.proofs.Common.{◌≡◌, ◌*◌, set, arith}
+use Rattle.std.proofs.Common.{◌*◌, set, arith}
 use Rattle.model.specs.Replace.{replaced}
 use Rattle.model.proofs.Forms.{decides_formed}
 use Rattle.model.proofs.Replacing.{replaced_keeps, replaced_measures}

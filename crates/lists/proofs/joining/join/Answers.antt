@@ -1,4 +1,4 @@
-use Rattle.std.proofs.Common.{◌++◌, arith}
+use Rattle.std.proofs.Common.{arith}
 use Rattle.lists.proofs.Roots.{formed_at, count_at}
 use Rattle.lists.proofs.Joins.{join_levels, join_shallow, joined_made, joined_right}
 use Rattle.lists.proofs.joining.join.Goals as goal

@@ -1,7 +1,7 @@
-use Rattle.std.proofs.Common.{◌≡◌, suc, ◌+◌, ◌-◌, ◌*◌, ◌<◌, ◌≤◌, sym, refl, ap, ◌∙◌, subst, arith, rules}
-use Rattle.model.specs.Tree.{count, count_node}
+use Rattle.std.proofs.Common.{◌≡◌, suc, ◌+◌, ◌-◌, ◌*◌, ◌<◌, ap, subst, arith, rules}
+use Rattle.model.specs.Tree.{count}
 use Rattle.model.specs.Forms.{Formed}
-use Rattle.cells.specs.Cells.{node, nodes, tree}
+use Rattle.cells.specs.Cells.{tree}
 use Rattle.cells.specs.Fingers.{listed}
 use Rattle.cuts.proofs.Finding.{back_ready, back_count}
 use Rattle.places.proofs.Rebuilding.{made_items, rebuilt_made, single_made, single_ready, rebuilt_front, rebuilt_middle, rebuilt_back}

@@ -1,6 +1,6 @@
-use Rattle.std.proofs.Common.{◌≡◌, sym, refl, ap, ◌∙◌}
+use Rattle.std.proofs.Common.{sym, refl, ap, ◌∙◌}
 use Rattle.model.specs.Ends.{tree_of}
-use Rattle.cells.specs.Cells.{end, nodes, tree}
+use Rattle.cells.specs.Cells.{end, nodes}
 use Rattle.cells.proofs.Opened.{tree_none}
 use Rattle.cells.specs.Fingers.{listed_some}
 use Rattle.ends.proofs.Popping.{grown_none}
