@@ -1,7 +1,6 @@
 -- Sorted, the placed targets are in label order. Assumes nothing.
 use Rattle.std.proofs.Common.{◌≡◌, ℕ, zero, suc, ◌+◌, ◌<◌, ◌≤◌, true, false, cond, List, ◌++◌, length, get_or, drop, sym, ◌∙◌, subst, ⊎_elim, add-one, arith}
-use Rattle.std.specs.Ordering.{is_lt}
-use Rattle.std.specs.List.Sorted.{IsPermutation, IsSortedWithin}
+use Rattle.std.specs.List.Sorted.{IsPermutation, IsSorted}
 use Rattle.std.proofs.lemmas.List.{get_or_default, take_at, drop_at}
 use Rattle.std.proofs.lemmas.List.Sorted.{length_permutation, sum_by-IsPermutation}
 use Rattle.std.proofs.lemmas.Bool.{cases_order}
@@ -37,7 +36,7 @@ module _ (ls : List Label) (next : (k : ℕ) (d : Label) → k + 1 < length ls �
       (⊎_elim (λ less. earlier_not_back x (get_or ls i d) (climbs k i d less m)) (λ more. absurd (omega arith)))
       (cases_order k i)))
 
-pub sorted_labelled : (ts : List Target) (ls : List Label) → IsPermutation (placed 0 ts) ls → IsSortedWithin (λ x y. is_lt (by_label.cmp x y)) ls 0 (length ls) → Labelled ts ls
+pub sorted_labelled : (ts : List Target) (ls : List Label) → IsPermutation (placed 0 ts) ls → IsSorted by_label ls → Labelled ts ls
 sorted_labelled ts ls s up =
     let long : length ls ≡ length ts = length_permutation (placed 0 ts) ls s ∙ length_placed 0 ts in
     let next : (k : ℕ) (d : Label) → k + 1 < length ls → earlier (get_or ls k d) (get_or ls (k + 1) d) ≡ true = λ k d h. sorted_earlier (get_or ls k d) (get_or ls (k + 1) d) (shuffled_apart ts ls s k d h) (up k d (omega arith) h) in
@@ -47,10 +46,9 @@ sorted_labelled ts ls s up =
       ranked = λ k d h. sym (sum_by-IsPermutation (λ y. cond (earlier y (get_or ls k d)) 1 0) (placed 0 ts) ls s) ∙ climbs_rank ls next k d (omega arith);
     }
 
--- with the list and the length as `fill` and `sort` leave them
-pub arranged : (ts : List Target) (ps ls : List Label) → ps ≡ placed 0 ts → IsPermutation ps ls → length ls ≡ length ps → IsSortedWithin (λ x y. is_lt (by_label.cmp x y)) ls 0 (length ps) → Labelled ts ls
-arranged ts ps ls filled s long up =
-    sorted_labelled ts ls (subst (λ l. IsPermutation l ls) filled s) (subst (λ n. IsSortedWithin (λ x y. is_lt (by_label.cmp x y)) ls 0 n) (sym long) up)
+-- with the list as `fill` leaves it
+pub arranged : (ts : List Target) (ps ls : List Label) → ps ≡ placed 0 ts → IsPermutation ps ls → IsSorted by_label ls → Labelled ts ls
+arranged ts ps ls filled s up = sorted_labelled ts ls (subst (λ l. IsPermutation l ls) filled s) up
 
 -- the output is what was arranged, and then what stood past it
 pub written : (ts : List Target) (before ls : List Label) → length ts ≤ length before → Labelled ts ls → Written ts before (ls ++ drop (length ts) before)

@@ -57,7 +57,7 @@ fn arrange(targets: &[Target], places: &mut [Label])
     ensures { Labelled targets.now places.new }
 {
     fill(targets, places);
-    places.sort();
+    places.sort_unstable();
 }
 
 /// Writes each target with its position to the place of the same position.

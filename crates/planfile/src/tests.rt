@@ -197,7 +197,7 @@ fn fields_in_order(rt: HostRuntime) -> Result<(), Fail> {
         _ => return Err(Fail::new("no target")),
     }
     match items.next() {
-        Some(Item::Piece(line)) => assert_eq!(rt; line, b"A"),
+        Some(Item::Piece(line)) => assert_eq!(rt; line, b"A".as_slice()),
         _ => return Err(Fail::new("no line")),
     }
     match items.next() {

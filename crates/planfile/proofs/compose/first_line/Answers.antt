@@ -1,4 +1,4 @@
-use Rattle.std.proofs.Common.{◌≡◌, ap, arith}
+use Rattle.std.proofs.Common.{ap, arith}
 use Rattle.std.proofs.lemmas.List.{drop_all}
 use Rattle.planfile.specs.Text.{line_end}
 use Rattle.planfile.proofs.Cuts.{end_here, end_later}

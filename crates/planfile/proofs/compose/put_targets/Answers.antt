@@ -7,16 +7,16 @@ use Rattle.planfile.proofs.compose.put_targets.Goals as goal
 pub loop-target-init : goal.loop-target-init
 loop-target-init c = put_start target_field c.args.out.now c.args.at c.args.targets.now c.requires.0 c.requires.1
 
-pub returns-in-err-at : goal.returns-in-err-at
-returns-in-err-at c =
+pub returns-in_err-at : goal.returns-in_err-at
+returns-in_err-at c =
     let first = drop_more c.args.targets.now c.loop-target.target-index (record { number = 0; range = 0 }) c.loop-target-test.true in
-    absurd (put_refused target_field _ _ _ _ _ _ _ _ first c.loop-target.invariant _ c.in-err-at.ensures.answer)
+    absurd (put_refused target_field _ _ _ _ _ _ _ _ first c.loop-target.invariant _ c.in_err-at.ensures.answer)
 
 pub loop-target-preserved : goal.loop-target-preserved
 loop-target-preserved c =
     let first = drop_more c.args.targets.now c.loop-target.target-index (record { number = 0; range = 0 }) c.loop-target-test.true in
-    let put = c.in-ok-at.ensures in
-    put_more target_field _ _ _ _ _ _ _ _ first c.loop-target.invariant _ _ c.put-target.auto.out put.output put.answer
+    let put = c.in_ok-at.ensures in
+    put_more target_field _ _ _ _ _ _ _ _ first c.loop-target.invariant _ _ c.put_target.auto.out put.output put.answer
 
 pub returns : goal.returns
 returns c =

@@ -4,6 +4,6 @@ use Rattle.planfile.proofs.compose.write.Goals as goal
 
 pub returns : goal.returns
 returns c =
-    let put = c.put-file.ensures in
-    let w = wrote c.args.text.now c.args.targets.now c.args.out.now (sym c.if-not-all-admitted.ensures) (sym c.if-not-all-distinct.ensures) _ _ put.answer put.output in
+    let put = c.put_file.ensures in
+    let w = wrote c.args.text.now c.args.targets.now c.args.out.now (sym c.if-not-all_admitted.ensures) (sym c.if-not-all_distinct.ensures) _ _ put.answer put.output in
     record { answer = w.answer; output = w.output; same = w.same }

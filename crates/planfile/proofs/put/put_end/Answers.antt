@@ -5,8 +5,8 @@ use Rattle.planfile.proofs.put.put_end.Goals as goal
 
 pub returns : goal.returns
 returns c =
-    let field = ap (field_of 0x7F) c.two-bytes.ensures in
+    let field = ap (field_of 0x7F) c.two_bytes.ensures in
     record {
-      answer = c.put-field.ensures.answer ∙ ap (answer c.args.out.now c.args.at) field;
-      output = c.put-field.ensures.output ∙ ap (left_after c.args.out.now c.args.at) field;
+      answer = c.put_field.ensures.answer ∙ ap (answer c.args.out.now c.args.at) field;
+      output = c.put_field.ensures.output ∙ ap (left_after c.args.out.now c.args.at) field;
     }
