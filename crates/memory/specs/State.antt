@@ -1,7 +1,7 @@
 -- What a memory holds, and how it reads. Assumes nothing.
 use Rattle.std.specs.Prelude.{◌≡◌, ℕ, ◌+◌, ◌≤◌, Bool, List, [], map, length, get_or, is_some, Some, None, Option, slice_index_or}
 use Rattle.std.specs.Option.{option_map, unwrap_or}
-use Rattle.std.specs.List.{AllByRecursion as All}
+use Rattle.std.specs.List.{AllByRecursion}
 use Rattle.kinds.specs.Algebra.{Algebra}
 use Rattle.cells.specs.declared.cell.Cell.{Cell}
 use Rattle.cells.specs.declared.cell.FreeList.{FreeList}
@@ -63,7 +63,7 @@ module _ {I T : Type 0} where
     pub cells_few : length s.cells ≤ 262144
     pub places_few : length s.table ≤ 64
     pub listed : Sound s.cells s.free
-    pub held : All (λ v. Held s.cells v.root) s.table
+    pub held : AllByRecursion (λ v. Held s.cells v.root) s.table
 
   -- The stored totals of a version are those of its items, which the kind admits.
   abbrev pub Rightly : {Q : Type 0} → Algebra I T Q → List (Cell I T) → Option Root → Type 0
@@ -72,7 +72,7 @@ module _ {I T : Type 0} where
 
   -- That of every version.
   abbrev pub Lawful : {Q : Type 0} → Algebra I T Q → State I T → Type 0
-  Lawful k s = All (λ v. Rightly k s.cells v.root) s.table
+  Lawful k s = AllByRecursion (λ v. Rightly k s.cells v.root) s.table
 
   -- A draft is made, a list that has no place yet: at most `cost` free cells were taken, every place and every other
   -- draft reads as before, and r stands for xs.

@@ -1,6 +1,6 @@
 -- Two trees as one. Assumes nothing.
 use Rattle.std.proofs.Common.{◌≡◌, ℕ, suc, ◌+◌, ◌*◌, ◌≤◌, List, [], ◌∷◌, ◌++◌, length, sym, refl, ap, ◌∙◌, append_assoc, append-nil, arith, length-append}
-use Rattle.std.specs.List.{AllByRecursion as All}
+use Rattle.std.specs.List.{AllByRecursion}
 use Rattle.std.proofs.ByRecursion.{All-append}
 use Rattle.model.specs.Tree.{Node, Tree, none, single, deep, torn, Side, front, back, along, items_node, run, items}
 use Rattle.kinds.specs.Algebra.{Algebra, Laws}
@@ -98,7 +98,7 @@ module _ {I T : Type 0} where
     append_items k (deep y n f m b) ls torn w e v = elim v [ ]
     append_items k torn ls u w e v = elim w [ ]
 
-pub all_onto : {A : Type 0} (P : A → Type 0) (xs ys : List A) → All P xs → All P ys → All P (onto xs ys)
+pub all_onto : {A : Type 0} (P : A → Type 0) (xs ys : List A) → AllByRecursion P xs → AllByRecursion P ys → AllByRecursion P (onto xs ys)
 all_onto P [] ys u v = v
 all_onto P (x ∷ xs) ys u v = all_onto P xs (x ∷ ys) u.1 (u.0, v)
 

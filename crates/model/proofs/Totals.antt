@@ -1,6 +1,6 @@
 -- What a kind's laws give of totals. Assumes nothing.
 use Rattle.std.proofs.Common.{◌≡◌, true, List, [], ◌∷◌, ◌++◌, sym, refl, ap, ◌∙◌, subst, ap₂}
-use Rattle.std.specs.List.{AllByRecursion as All}
+use Rattle.std.specs.List.{AllByRecursion}
 use Rattle.std.proofs.ByRecursion.{All-append}
 use Rattle.kinds.specs.Algebra.{Algebra, Laws}
 use Rattle.model.specs.Tree.{Node, leaf, two, three, gap, Tree, none, single, deep, torn, Side, front, back, items_node, run, items}
@@ -9,7 +9,7 @@ use Rattle.model.specs.Ends.{make2, make3, make, three_at, deep_at}
 use Rattle.model.specs.Statements.{Sound, TotalsJoin, TotalsFair}
 
 -- what holds of each of xs ++ ys holds of each of both
-pub all_apart : {A : Type 0} (P : A → Type 0) (xs ys : List A) → All P (xs ++ ys) → All P xs × All P ys
+pub all_apart : {A : Type 0} (P : A → Type 0) (xs ys : List A) → AllByRecursion P (xs ++ ys) → AllByRecursion P xs × AllByRecursion P ys
 all_apart P [] ys h = (tt, h)
 all_apart P (x ∷ xs) ys h = let r = all_apart P xs ys h.1 in ((h.0, r.0), r.1)
 
@@ -21,7 +21,7 @@ WeighedNode k (three t n a b c) = (t ≡ total k (items_node a ++ (items_node b 
 WeighedNode k gap = Unit {0}
 
 abbrev pub WeighedEach : {I T Q : Type 0} → Algebra I T Q → List (Node I T) → Type 0
-WeighedEach k ds = All (WeighedNode k) ds
+WeighedEach k ds = AllByRecursion (WeighedNode k) ds
 
 abbrev pub Weighed : {I T Q : Type 0} → Algebra I T Q → Tree I T → Type 0
 Weighed k none = Unit {0}
@@ -148,7 +148,7 @@ module _ {I T Q : Type 0} {k : Algebra I T Q} (laws : Laws k) where
   fair_node (three t n a b c) w = (subst k.fair (sym w.0) (fair_total (items_node a ++ (items_node b ++ items_node c)) (admits_node k (three t n a b c) w)), (fair_node a w.1.0, (fair_node b w.1.1.0, fair_node c w.1.1.1)))
   fair_node gap w = tt
 
-  fair_each : (ds : List (Node I T)) → WeighedEach k ds → All (FairNode k) ds
+  fair_each : (ds : List (Node I T)) → WeighedEach k ds → AllByRecursion (FairNode k) ds
   fair_each [] w = tt
   fair_each (a ∷ more) w = (fair_node a w.0, fair_each more w.1)
 

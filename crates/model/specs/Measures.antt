@@ -1,11 +1,11 @@
 -- What a row of items comes to, and that a tree's stored totals are right. Assumes nothing.
 use Rattle.std.specs.Prelude.{◌≡◌, true, List, [], ◌∷◌, ◌++◌}
-use Rattle.std.specs.List.{AllByRecursion as All}
+use Rattle.std.specs.List.{AllByRecursion}
 use Rattle.kinds.specs.Algebra.{Algebra}
 use Rattle.model.specs.Tree.{Node, leaf, two, three, gap, Tree, none, single, deep, torn, Side, front, back, items_node, run, items}
 
 abbrev pub Admitted : {I T Q : Type 0} → Algebra I T Q → List I → Type 0
-Admitted k xs = All (λ x. k.admitted x ≡ true) xs
+Admitted k xs = AllByRecursion (λ x. k.admitted x ≡ true) xs
 
 abbrev pub total : {I T Q : Type 0} → Algebra I T Q → List I → T
 total q [] = q.nothing
@@ -58,5 +58,5 @@ FairNode k gap = Unit {0}
 abbrev pub Fair : {I T Q : Type 0} → Algebra I T Q → Tree I T → Type 0
 Fair k none = Unit {0}
 Fair k (single a) = FairNode k a
-Fair k (deep t n f m b) = k.fair t × (All (FairNode k) f × (Fair k m × All (FairNode k) b))
+Fair k (deep t n f m b) = k.fair t × (AllByRecursion (FairNode k) f × (Fair k m × AllByRecursion (FairNode k) b))
 Fair k torn = Unit {0}

@@ -1,6 +1,6 @@
 -- In which part of a row a question is met. Assumes nothing.
 use Rattle.std.specs.Prelude.{◌≡◌, ℕ, ◌+◌, ◌≤◌, true, List, length}
-use Rattle.std.specs.List.{AllByRecursion as All}
+use Rattle.std.specs.List.{AllByRecursion}
 use Rattle.kinds.specs.Algebra.{Algebra}
 use Rattle.model.specs.Tree.{Node, Tree, single, front, items_node, run, items, count_node}
 use Rattle.model.specs.Forms.{FormedNode}
@@ -25,7 +25,7 @@ pub record Spotted {I T Q : Type 0} (k : Algebra I T Q) (h : List (Cell I T)) (l
   pub right : stored → k.fair acc → k.met (k.joined acc (total k xs)) q ≡ true → MetIn k q n acc xs r.position r.before (node h level r.finger)
 
 abbrev pub SoundEach : {I T Q : Type 0} → Algebra I T Q → List (Node I T) → Type 0
-SoundEach k ds = All (λ a. Sound k (single a)) ds
+SoundEach k ds = AllByRecursion (λ a. Sound k (single a)) ds
 
 -- of fingers listed from the left
 abbrev pub SpottedRun : {I T Q : Type 0} → Algebra I T Q → List (Cell I T) → ℕ → Q → ℕ → T → List (Node I T) → Spot T → Type 0
