@@ -2,7 +2,7 @@
 ghost use Rattle.std.specs.Prelude.{◌≡◌, ℕ, suc, ◌+◌, ◌^◌, ◌<◌};
 ghost use Rattle.model.specs.Tree.{count_node, count_run, count};
 ghost use Rattle.model.specs.Tree.{single as alone};
-ghost use Rattle.model.specs.Ends.{make2, make3, make, three_at, deep_at};
+ghost use Rattle.model.specs.Ends.{make2, make3, make, three_at as node_at_side, deep_at as tree_at_side};
 ghost use Rattle.model.specs.Forms.{FormedNode, Each, Formed};
 ghost use Rattle.cells.specs.Cells.{end, node, nodes, tree};
 ghost use Rattle.cells.specs.Fingers.{listed};
@@ -149,7 +149,7 @@ pub fn three_at<K: Kind>(
     requires middle { FormedNode level (node cells.old level middle) }
     requires far { FormedNode level (node cells.old level far) }
     requires fits { count_node (node cells.old level near) + (count_node (node cells.old level middle) + count_node (node cells.old level far)) < 2 ^ 32 }
-    ensures { MadeNode cells.old cells.new free.old free.new 1 (suc level) result (three_at K.Kind.kind (end side) (node cells.old level near) (node cells.old level middle) (node cells.old level far)) }
+    ensures { MadeNode cells.old cells.new free.old free.new 1 (suc level) result (node_at_side K.Kind.kind (end side) (node cells.old level near) (node cells.old level middle) (node cells.old level far)) }
 {
     match side {
         Side::Front => make_three::<K>(cells, free, level, near, middle, far),
@@ -174,7 +174,7 @@ pub fn deep_at<K: Kind>(
     requires middle { Formed (suc level) (tree cells.old middle.levels (suc level) middle.at) }
     requires far { Each level (nodes cells.old level (listed far)) }
     requires fits { count_run (nodes cells.old level (listed near)) + (count (tree cells.old middle.levels (suc level) middle.at) + count_run (nodes cells.old level (listed far))) < 2 ^ 32 }
-    ensures { MadeTree cells.old cells.new free.old free.new 1 level result (deep_at K.Kind.kind (end side) (nodes cells.old level (listed near)) (tree cells.old middle.levels (suc level) middle.at) (nodes cells.old level (listed far))) }
+    ensures { MadeTree cells.old cells.new free.old free.new 1 level result (tree_at_side K.Kind.kind (end side) (nodes cells.old level (listed near)) (tree cells.old middle.levels (suc level) middle.at) (nodes cells.old level (listed far))) }
 {
     match side {
         Side::Front => make_deep::<K>(cells, free, level, near, middle, far),

@@ -1,6 +1,6 @@
 // Writing: a field at a position of the output.
 ghost use Rattle.std.specs.Prelude.{◌≡◌, ◌+◌, ◌≤◌, length, Ok};
-ghost use Rattle.planfile.specs.Files.{two_bytes, field_of, piece_field, target_field, end_field};
+ghost use Rattle.planfile.specs.Files.{two_bytes as in_two_bytes, field_of, piece_field, target_field, end_field};
 ghost use Rattle.planfile.specs.Writing.{written, left_after, answer};
 
 use super::{Cause, FileFault, MOST_BYTES};
@@ -67,7 +67,7 @@ pub fn put_end(out: &mut [u8], at: u32, count: u16) -> Result<u32, FileFault>
 
 /// A number in two bytes, the high one first.
 fn two_bytes(n: u16) -> [u8; 2]
-    ensures { result ≡ two_bytes n }
+    ensures { result ≡ in_two_bytes n }
 {
     [(n / 256) as u8, (n % 256) as u8]
 }

@@ -1,6 +1,6 @@
 // Reading: each field by itself, and the verdict on a whole file.
 ghost use Rattle.std.specs.Prelude.{◌≡◌, ◌+◌, ◌-◌, ◌*◌, ◌<◌, ◌≤◌, length};
-ghost use Rattle.planfile.specs.Format.{is_line, meaning, piece_meaning, target_meaning, end_meaning, front, verdict};
+ghost use Rattle.planfile.specs.Format.{is_line as is_a_line, meaning, piece_meaning, target_meaning, end_meaning, front, verdict};
 ghost use Rattle.planfile.specs.Files.{KeepsRules, EnoughFields};
 ghost use Rattle.planfile.specs.Reading.{counted, ending, stepped, told};
 
@@ -32,7 +32,7 @@ pub struct Step<'a> {
 
 /// Whether the bytes are one line: at least one, and a newline only as the last.
 fn is_line(value: &[u8]) -> bool
-    ensures { result ≡ is_line value.now }
+    ensures { result ≡ is_a_line value.now }
 {
     let [inner @ .., _] = value else {
         return false;
