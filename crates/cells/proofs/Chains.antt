@@ -48,11 +48,14 @@ module _ {I T : Type 0} where
       let e = sum_by-set (λ (x : Cell I T). cond (is_free x.body) 1 0) h q c blank within in
       omega (arith, rw (was, is) at e)
 
-  pub taken : (h : List (Cell I T)) (free free' : FreeList) (c : Cell I T) → is_free c.body ≡ false → 0 < free.count → Sound h free → free'.first ≡ link h free.first → free'.count ≡ free.count - 1 → Taken h (set h free.first c) free free' free.first c.body
+  pub taken : (h : List (Cell I T)) (free free' : FreeList) (c : Cell I T) → is_free c.body ≡ false → 0 < free.count → Sound h free → free'.first ≡ link h free.first → free'.count ≡ free.count - 1 → Taken h (set h free.first c) free.first c.body × Sound (set h free.first c) free'
   taken h free free' c used some sound e n =
       let hd = head h free.count free.first some sound.linked in
       let rest = kept_chain h (free.count - 1) (link h free.first) free.first c hd.apart hd.rest in
-      record {
-        grown = record { extends = extends_set h free.first c hd.free; sound = record { linked = rw (e, n) rest.1; all = omega (arith, fewer h free.first c hd.within hd.free used, sound.all) }; spent = omega arith };
-        holds = ap (λ (x : Cell I T). x.body) (get_or-set_same h free.first c blank hd.within);
-      }
+      let less = fewer h free.first c hd.within hd.free used in (
+        record {
+          grown = record { extends = extends_set h free.first c hd.free; spent = omega (arith, less) };
+          holds = ap (λ (x : Cell I T). x.body) (get_or-set_same h free.first c blank hd.within);
+        },
+        record { linked = rw (e, n) rest.1; all = omega (arith, less, sound.all) },
+      )

@@ -1,5 +1,5 @@
 -- The first few of four. Assumes nothing.
-use Rattle.std.proofs.Common.{◌≡◌, ℕ, zero, suc, ◌+◌, ◌-◌, ◌<◌, ◌≤◌, List, [], ◌∷◌, ◌++◌, length, get_or, take, Some, None, Option, refl, ap, ◌∙◌, arith, MatchOption}
+use Rattle.std.proofs.Common.{◌≡◌, ℕ, zero, suc, ◌+◌, ◌-◌, ◌<◌, ◌≤◌, List, [], ◌∷◌, ◌++◌, length, get_or, take, Some, None, Option, refl, arith}
 use Rattle.cells.specs.Fingers.{front_of, listed, listed_some}
 use Rattle.cells.specs.declared.fingers.Digit.{Digit}
 
@@ -26,21 +26,12 @@ first_length (suc (suc (suc zero))) a b c d l = refl
 first_length (suc (suc (suc (suc zero)))) a b c d l = refl
 first_length (suc (suc (suc (suc (suc n))))) a b c d l = absurd (omega arith)
 
-pub first_at : (at : List ℕ) (i n : ℕ) → i < n → n ≤ 4 → get_or at i 0 ≡ get_or (front_of n at) i 0
-first_at at i zero h l = absurd (omega arith)
-first_at at zero (suc n) h l = refl
-first_at at (suc i) (suc zero) h l = absurd (omega arith)
-first_at at (suc zero) (suc (suc n)) h l = refl
-first_at at (suc (suc i)) (suc (suc zero)) h l = absurd (omega arith)
-first_at at (suc (suc zero)) (suc (suc (suc n))) h l = refl
-first_at at (suc (suc (suc i))) (suc (suc (suc zero))) h l = absurd (omega arith)
-first_at at (suc (suc (suc zero))) (suc (suc (suc (suc n)))) h l = refl
-first_at at (suc (suc (suc (suc i)))) (suc (suc (suc (suc n)))) h l = absurd (omega arith)
+-- the first of a digit, and those after it
+pub first_rest : (n : ℕ) (at : List ℕ) → 1 ≤ n → n ≤ 4 → front_of n at ≡ get_or at 0 0 ∷ front_of (n - 1) (get_or at 1 0 ∷ get_or at 2 0 ∷ get_or at 3 0 ∷ 0 ∷ [])
+first_rest n at h l = first_less n _ _ _ _ 0 h l
 
-pub first_rest : (n : ℕ) (at : List ℕ) → 1 ≤ n → n ≤ 4 → front_of n at ≡ get_or (front_of n at) 0 0 ∷ take (n - 1) (get_or at 1 0 ∷ get_or at 2 0 ∷ get_or at 3 0 ∷ 0 ∷ [])
-first_rest n at h l = first_less n _ _ _ _ 0 h l ∙ ap (λ x. x ∷ take (n - 1) (get_or at 1 0 ∷ get_or at 2 0 ∷ get_or at 3 0 ∷ 0 ∷ [])) (first_at at 0 n h l)
-
-pub first_last : (n : ℕ) (at : List ℕ) → 1 ≤ n → n ≤ 4 → front_of n at ≡ front_of (n - 1) at ++ (get_or (front_of n at) (n - 1) 0 ∷ [])
+-- the last of a digit, and those before it
+pub first_last : (n : ℕ) (at : List ℕ) → 1 ≤ n → n ≤ 4 → front_of n at ≡ front_of (n - 1) at ++ (get_or at (n - 1) 0 ∷ [])
 first_last zero at h l = absurd (omega arith)
 first_last (suc zero) at h l = refl
 first_last (suc (suc zero)) at h l = refl
@@ -50,11 +41,6 @@ first_last (suc (suc (suc (suc (suc n))))) at h l = absurd (omega arith)
 
 pub listed_length : (d : Digit) → length (listed d) ≡ d.count
 listed_length d = first_length d.count _ _ _ _ d.filled.1
-
--- what is left of a digit after its first finger
-pub rest_listed : (d : Digit) (o : Option Digit) → MatchOption o (listed d ≡ get_or (listed d) 0 0 ∷ []) (λ e. listed d ≡ get_or (listed d) 0 0 ∷ listed e) → listed d ≡ get_or (listed d) 0 0 ∷ listed_some o
-rest_listed d None c = c
-rest_listed d (Some e) c = c
 
 pub some_length : (o : Option Digit) → length (listed_some o) ≤ 4
 some_length None = omega arith

@@ -1,51 +1,76 @@
 -- What a new cell reads as. Assumes nothing.
-use Rattle.std.proofs.Common.{◌≡◌, ℕ, suc, ◌+◌, true, eqb, List, ap, ◌∙◌, arith}
+use Rattle.std.proofs.Common.{◌≡◌, ℕ, suc, ◌+◌, ◌≤◌, true, eqb, List, [], ◌∷◌, length, get_or, ap, ◌∙◌, arith}
 use Rattle.std.proofs.lemmas.Bool.Decides.{nat_tests}
-use Rattle.model.specs.Tree.{single, deep, count_node, count_run, count, front, back}
+use Rattle.std.proofs.lemmas.List.{length-map}
+use Rattle.model.specs.Tree.{Side as End}
+use Rattle.model.specs.Tree.{Node, single, deep, count_node, count_run, count, front, back}
 use Rattle.kinds.specs.Algebra.{Algebra}
 use Rattle.model.specs.Measures.{sum_node, sum_run, sum}
-use Rattle.model.specs.Ends.{make2, make3, make}
+use Rattle.model.specs.Ends.{make, deep_at}
+use Rattle.model.specs.Replace.{regroup}
 use Rattle.model.specs.Forms.{FormedNode, Each, Formed}
-use Rattle.cells.specs.Cells.{branch_of, node, nodes, level_of, tree}
-use Rattle.cells.specs.Fingers.{held}
+use Rattle.cells.specs.Cells.{in_order, node_from, branch_of, node, nodes, level_of, tree, rooted}
+use Rattle.cells.specs.Fingers.{front_of, held, listed}
+use Rattle.cells.specs.declared.fingers.Digit.{Digit as Filled}
 use Rattle.cells.specs.Chain.{Taken}
-use Rattle.cells.specs.Made.{MadeNode, MadeTree}
+use Rattle.cells.specs.Made.{MadeNode, MadeTree, Weighed}
 use Rattle.cells.specs.declared.cell.Cell.{Cell}
-use Rattle.cells.specs.declared.cell.FreeList.{FreeList}
+use Rattle.cells.specs.declared.cell.Weight.{Weight}
+use Rattle.cells.specs.declared.cell.Root.{Root}
 use Rattle.cells.specs.declared.fingers.Fingers.{Fingers}
-use Rattle.cells.specs.declared.cell.Body.TheVariants.{Two, Three, Single, Deep}
+use Rattle.cells.specs.declared.cell.Body.TheVariants.{Node as Branch, Single, Deep}
 use Rattle.cells.proofs.Frames.{keep_node, keep_nodes, keep_tree}
 
-module _ {I T Q : Type 0} (q : Algebra I T Q) {h h' : List (Cell I T)} {free free' : FreeList} {r : ℕ} (k : ℕ) where
-  pub made_two : {t : T} {n a b : ℕ} → Taken h h' free free' r (Two t n a b) → FormedNode k (node h k a) → FormedNode k (node h k b) → t ≡ q.joined (sum_node q (node h k a)) (sum_node q (node h k b)) → n ≡ count_node (node h k a) + count_node (node h k b) → MadeNode h h' free free' 1 (suc k) r (make2 q (node h k a) (node h k b))
+module _ {I T Q : Type 0} (q : Algebra I T Q) where
+  -- a node of two or three fingers that was given the total and the count of what it is made of
+  regrouped : (w : Weight T) (ns : List (Node I T)) → 2 ≤ length ns → length ns ≤ 3 → Weighed (sum_node q (regroup q ns)) (count_node (regroup q ns)) w → node_from w.total w.items ns ≡ regroup q ns
+  regrouped w [] some few is = absurd (omega arith)
+  regrouped w (a ∷ []) some few is = absurd (omega arith)
+  regrouped w (a ∷ b ∷ []) some few is = rw (is.total_is, is.items_are)
+  regrouped w (a ∷ b ∷ c ∷ []) some few is = rw (is.total_is, is.items_are)
+  regrouped w (a ∷ b ∷ c ∷ d ∷ more) some few is = absurd (omega arith)
+
+module _ {I T Q : Type 0} (q : Algebra I T Q) {h h' : List (Cell I T)} {r : ℕ} (k : ℕ) where
+  pub made_node : {w : Weight T} {f : Fingers} (ps : List ℕ) → held f ≡ ps → Taken h h' r (Branch w f) → 2 ≤ length ps → length ps ≤ 3 → Each k (nodes h k ps) → Weighed (sum_node q (regroup q (nodes h k ps))) (count_node (regroup q (nodes h k ps))) w → MadeNode h h' 1 (suc k) r (regroup q (nodes h k ps))
   unfolding node
-  made_two {t} {n} {a} {b} u v w e f = record {
+  made_node {w} {f} ps x u some few formed is = record {
     grown = u.grown;
-    reads = ap (branch_of (node h' k)) u.holds ∙ rw (keep_node u.grown.extends k a v, keep_node u.grown.extends k b w, e, f);
+    reads = ap (branch_of (node h' k)) u.holds ∙ rw (x, keep_nodes u.grown.extends k ps formed) (regrouped q w (nodes h k ps) (simp length-map some) (simp length-map few) is);
   }
 
-  pub made_three : {t : T} {n a b c : ℕ} → Taken h h' free free' r (Three t n a b c) → FormedNode k (node h k a) → FormedNode k (node h k b) → FormedNode k (node h k c) → t ≡ q.joined (sum_node q (node h k a)) (q.joined (sum_node q (node h k b)) (sum_node q (node h k c))) → n ≡ count_node (node h k a) + (count_node (node h k b) + count_node (node h k c)) → MadeNode h h' free free' 1 (suc k) r (make3 q (node h k a) (node h k b) (node h k c))
-  unfolding node
-  made_three {t} {n} {a} {b} {c} u v w x e f = record {
-    grown = u.grown;
-    reads = ap (branch_of (node h' k)) u.holds ∙ rw (keep_node u.grown.extends k a v, keep_node u.grown.extends k b w, keep_node u.grown.extends k c x, e, f);
-  }
-
-  pub made_single : {f : ℕ} → Taken h h' free free' r (Single f) → FormedNode k (node h k f) → MadeTree h h' free free' 1 k (record { levels = 1; at = r }) (single (node h k f))
+  pub made_single : {f : ℕ} → Taken h h' r (Single f) → FormedNode k (node h k f) → MadeTree h h' 1 k (record { levels = 1; at = r }) (single (node h k f))
   unfolding tree
   made_single {f} u v = record {
     grown = u.grown;
     reads = ap (level_of 0 (node h' k) (tree h' 0 (suc k))) u.holds ∙ ap single (keep_node u.grown.extends k f v);
   }
 
-  made_level : {t : T} {n m : ℕ} {f b : Fingers} (d e : ℕ) → e ≡ suc d → Taken h h' free free' r (Deep t n e f m b) → tree h' e k r ≡ deep t n (nodes h' k (held f)) (tree h' d (suc k) m) (nodes h' k (held b))
+  made_level : {w : Weight T} {m : Root} {f b : Fingers} (e : ℕ) → e ≡ suc m.levels → Taken h h' r (Deep w f m b) → tree h' e k r ≡ deep w.total w.items (nodes h' k (held f)) (rooted h' (suc k) m) (nodes h' k (held b))
   unfolding tree
-  made_level {t} {n} {m} {f} {b} d e i u =
-      let o : eqb e (suc d) ≡ true = grind (arith, nat_tests, i) in
-      rw i (ap (level_of d (node h' k) (tree h' d (suc k))) u.holds ∙ rw o)
+  made_level {w} {m} {f} {b} e i u =
+      let o : eqb m.levels m.levels ≡ true = grind (arith, nat_tests) in
+      rw i (ap (level_of m.levels (node h' k) (tree h' m.levels (suc k))) u.holds ∙ rw o)
 
-  pub made_deep : {t : T} {n m e : ℕ} {f b : Fingers} (fs bs : List ℕ) (d : ℕ) → e ≡ d + 1 → held f ≡ fs → held b ≡ bs → Taken h h' free free' r (Deep t n e f m b) → Each k (nodes h k fs) → Formed (suc k) (tree h d (suc k) m) → Each k (nodes h k bs) → t ≡ q.joined (sum_run q front (nodes h k fs)) (q.joined (sum q (tree h d (suc k) m)) (sum_run q back (nodes h k bs))) → n ≡ count_run (nodes h k fs) + (count (tree h d (suc k) m) + count_run (nodes h k bs)) → MadeTree h h' free free' 1 k (record { levels = e; at = r }) (make q (nodes h k fs) (tree h d (suc k) m) (nodes h k bs))
-  made_deep {t} {n} {m} {e} {f} {b} fs bs d i x y u v w z o c = record {
+  pub made_deep : {w : Weight T} {e : ℕ} {m : Root} {f b : Fingers} (fs bs : List ℕ) → e ≡ m.levels + 1 → held f ≡ fs → held b ≡ bs → Taken h h' r (Deep w f m b) → Each k (nodes h k fs) → Formed (suc k) (rooted h (suc k) m) → Each k (nodes h k bs) → w.total ≡ q.joined (sum_run q front (nodes h k fs)) (q.joined (sum q (rooted h (suc k) m)) (sum_run q back (nodes h k bs))) → w.items ≡ count_run (nodes h k fs) + (count (rooted h (suc k) m) + count_run (nodes h k bs)) → MadeTree h h' 1 k (record { levels = e; at = r }) (make q (nodes h k fs) (rooted h (suc k) m) (nodes h k bs))
+  made_deep {w} {e} {m} {f} {b} fs bs i x y u v formed z o c = record {
     grown = u.grown;
-    reads = made_level d e (omega arith) u ∙ rw (x, y, keep_nodes u.grown.extends k fs v, keep_tree u.grown.extends d (suc k) m w, keep_nodes u.grown.extends k bs z, o, c);
+    reads = made_level e (omega arith) u ∙ rw (x, y, keep_nodes u.grown.extends k fs v, keep_tree u.grown.extends m.levels (suc k) m.at formed, keep_nodes u.grown.extends k bs z, o, c);
   }
+
+  pub made_sided : {w : Weight T} {e : ℕ} {m : Root} {f b : Fingers} (s : End) (near far : Filled) (o : Filled × Filled) → o ≡ in_order s near far → e ≡ m.levels + 1 → held f ≡ listed o.0 → held b ≡ listed o.1 → Taken h h' r (Deep w f m b) → Each k (nodes h k (listed near)) → Formed (suc k) (rooted h (suc k) m) → Each k (nodes h k (listed far)) → w.total ≡ q.joined (sum_run q front (nodes h k (listed o.0))) (q.joined (sum q (rooted h (suc k) m)) (sum_run q back (nodes h k (listed o.1)))) → w.items ≡ count_run (nodes h k (listed o.0)) + (count (rooted h (suc k) m) + count_run (nodes h k (listed o.1))) → MadeTree h h' 1 k (record { levels = e; at = r }) (deep_at q s (nodes h k (listed near)) (rooted h (suc k) m) (nodes h k (listed far)))
+  made_sided front near far o i l x y u v formed z a c = made_deep _ _ l (rw i at x) (rw i at y) u v formed z (rw i at a) (rw i at c)
+  made_sided back near far o i l x y u v formed z a c = made_deep _ _ l (rw i at x) (rw i at y) u z formed v (rw i at a) (rw i at c)
+
+-- two or three nodes, weighed
+module _ {I T Q : Type 0} (q : Algebra I T Q) (h : List (Cell I T)) (k n : ℕ) (at : List ℕ) where
+  abbrev of_at : ℕ → Node I T
+  of_at i = node h k (get_or at i 0)
+
+  abbrev pub Regrouped : Weight T → Type 0
+  Regrouped w = Weighed (sum_node q (regroup q (nodes h k (front_of n at)))) (count_node (regroup q (nodes h k (front_of n at)))) w
+
+  pub pair : (x y w : Weight T) → n ≡ 2 → Weighed (sum_node q (of_at 0)) (count_node (of_at 0)) x → Weighed (sum_node q (of_at 1)) (count_node (of_at 1)) y → Weighed (q.joined x.total y.total) (x.items + y.items) w → Regrouped w
+  pair x y w e u v r = rw e (record { total_is = r.total_is ∙ rw (u.total_is, v.total_is); items_are = r.items_are ∙ rw (u.items_are, v.items_are) })
+
+  pub triple : (x y z o w : Weight T) → n ≡ 3 → Weighed (sum_node q (of_at 0)) (count_node (of_at 0)) x → Weighed (sum_node q (of_at 1)) (count_node (of_at 1)) y → Weighed (sum_node q (of_at 2)) (count_node (of_at 2)) z → Weighed (q.joined y.total z.total) (y.items + z.items) o → Weighed (q.joined x.total o.total) (x.items + o.items) w → Regrouped w
+  triple x y z o w e u v p r t = rw e (record { total_is = t.total_is ∙ rw (u.total_is, r.total_is, v.total_is, p.total_is); items_are = t.items_are ∙ rw (u.items_are, r.items_are, v.items_are, p.items_are) })

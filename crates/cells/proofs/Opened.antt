@@ -1,14 +1,17 @@
 -- What a cell holds where a node or a tree is formed. Assumes nothing.
 use Rattle.std.proofs.Common.{◌≡◌, ℕ, zero, suc, ◌+◌, ◌-◌, ◌<◌, ◌≤◌, Bool, true, false, cond, eqb, List, [], ◌∷◌, map, length, get_or, sym, refl, ap, ◌∙◌, subst, arith}
 use Rattle.std.proofs.lemmas.Bool.Decides.{nat_tests}
-use Rattle.std.proofs.lemmas.List.{length-map, get_or_read}
-use Rattle.model.specs.Tree.{Node, two, three, Tree, none, single, deep, torn, levels, count_node, count_run, count, front, back}
+use Rattle.std.proofs.lemmas.List.{length-map}
+use Rattle.model.specs.Tree.{Node, leaf, Tree, none, single, deep, torn, levels, count_node, count_run, count, front, back}
 use Rattle.model.specs.Tree.{Side as End}
 use Rattle.kinds.specs.Algebra.{Algebra}
 use Rattle.model.specs.Measures.{sum_node, sum_run, toward}
 use Rattle.model.specs.Ends.{fingers}
+use Rattle.model.specs.Append.{onto}
+use Rattle.cells.proofs.Frames.{branch_parts}
+use Rattle.cells.proofs.Turned.{nodes_onto}
 use Rattle.model.specs.Forms.{FormedNode, Each, Formed}
-use Rattle.cells.specs.Cells.{blank, body, is_free, leaf_of, branch_of, node, nodes, level_of, tree}
+use Rattle.cells.specs.Cells.{in_order, body, leaf_of, node_from, branch_of, node, nodes, level_of, tree, rooted}
 use Rattle.cells.specs.Fingers.{held, listed}
 use Rattle.cells.specs.Made.{Weighed, SeenDeep}
 use Rattle.cells.specs.declared.cell.Cell.{Cell}
@@ -17,7 +20,7 @@ use Rattle.cells.specs.declared.cell.Root.{Root}
 use Rattle.cells.specs.declared.fingers.Fingers.{Fingers}
 use Rattle.cells.specs.declared.fingers.Digit.{Digit as Filled}
 use Rattle.cells.specs.declared.cell.Body.{Body}
-use Rattle.cells.specs.declared.cell.Body.TheVariants.{Free, Item, Two, Three, Single, Deep}
+use Rattle.cells.specs.declared.cell.Body.TheVariants.{Free, Item, Node as Branch, Single, Deep}
 
 module _ {I T : Type 0} where
   -- the node that a cell of this body is, at depth k
@@ -28,91 +31,108 @@ module _ {I T : Type 0} where
   abbrev body_sum : {Q : Type 0} → Algebra I T Q → Body I T → T
   body_sum q Free = q.nothing
   body_sum q (Item i) = q.measure i
-  body_sum q (Two t n l r) = t
-  body_sum q (Three t n l m r) = t
+  body_sum q (Branch w f) = w.total
   body_sum q (Single f) = q.nothing
-  body_sum q (Deep t n d f m b) = t
+  body_sum q (Deep w f m b) = w.total
 
   abbrev body_count : Body I T → ℕ
   body_count Free = 0
   body_count (Item i) = 1
-  body_count (Two t n l r) = n
-  body_count (Three t n l m r) = n
+  body_count (Branch w f) = w.items
   body_count (Single f) = 0
-  body_count (Deep t n d f m b) = n
+  body_count (Deep w f m b) = w.items
 
   -- the bodies that are nodes
-  abbrev Branch : Body I T → Type 0
-  Branch Free = ⊥
-  Branch (Item i) = Unit {0}
-  Branch (Two t n l r) = Unit {0}
-  Branch (Three t n l m r) = Unit {0}
-  Branch (Single f) = ⊥
-  Branch (Deep t n d f m b) = ⊥
+  abbrev IsNode : Body I T → Type 0
+  IsNode Free = ⊥
+  IsNode (Item i) = Unit {0}
+  IsNode (Branch w f) = Unit {0}
+  IsNode (Single f) = ⊥
+  IsNode (Deep w f m b) = ⊥
 
-  within_used : (h : List (Cell I T)) (p : ℕ) → is_free (body h p) ≡ false → p < length h
-  within_used [] p e = let z : ◌≡◌ {A = ℕ} 0 1 = cc in absurd (omega arith)
-  within_used (c ∷ h) zero e = omega arith
-  within_used (c ∷ h) (suc p) e = let l = within_used h p e in omega arith
+  branch_reads : {Q : Type 0} (q : Algebra I T Q) (k : ℕ) (w : Weight T) (ns : List (Node I T)) → FormedNode (suc k) (node_from w.total w.items ns) → (sum_node q (node_from w.total w.items ns) ≡ w.total) × (count_node (node_from w.total w.items ns) ≡ w.items)
+  branch_reads q k w [] v = elim v [ ]
+  branch_reads q k w (a ∷ []) v = elim v [ ]
+  branch_reads q k w (a ∷ b ∷ []) v = (refl, refl)
+  branch_reads q k w (a ∷ b ∷ c ∷ []) v = (refl, refl)
+  branch_reads q k w (a ∷ b ∷ c ∷ d ∷ more) v = elim v [ ]
 
-  read_node : {Q : Type 0} (q : Algebra I T Q) (h : List (Cell I T)) (k : ℕ) (b : Body I T) → FormedNode k (node_of h k b) → (is_free b ≡ false) × ((sum_node q (node_of h k b) ≡ body_sum q b) × ((count_node (node_of h k b) ≡ body_count b) × Branch b))
+  read_node : {Q : Type 0} (q : Algebra I T Q) (h : List (Cell I T)) (k : ℕ) (b : Body I T) → FormedNode k (node_of h k b) → (sum_node q (node_of h k b) ≡ body_sum q b) × ((count_node (node_of h k b) ≡ body_count b) × IsNode b)
   unfolding node_of
-  read_node q h zero Free w = elim w [ ]
-  read_node q h zero (Item i) w = (refl, (refl, (refl, tt)))
-  read_node q h zero (Two t n l r) w = elim w [ ]
-  read_node q h zero (Three t n l m r) w = elim w [ ]
-  read_node q h zero (Single f) w = elim w [ ]
-  read_node q h zero (Deep t n d f m b) w = elim w [ ]
-  read_node q h (suc k) Free w = elim w [ ]
-  read_node q h (suc k) (Item i) w = elim w [ ]
-  read_node q h (suc k) (Two t n l r) w = (refl, (refl, (refl, tt)))
-  read_node q h (suc k) (Three t n l m r) w = (refl, (refl, (refl, tt)))
-  read_node q h (suc k) (Single f) w = elim w [ ]
-  read_node q h (suc k) (Deep t n d f m b) w = elim w [ ]
+  read_node q h zero Free v = elim v [ ]
+  read_node q h zero (Item i) v = (refl, (refl, tt))
+  read_node q h zero (Branch w f) v = elim v [ ]
+  read_node q h zero (Single f) v = elim v [ ]
+  read_node q h zero (Deep w f m b) v = elim v [ ]
+  read_node q h (suc k) Free v = elim v [ ]
+  read_node q h (suc k) (Item i) v = elim v [ ]
+  read_node q h (suc k) (Branch w f) v = let r = branch_reads q k w (nodes h k (held f)) v in (r.0, (r.1, tt))
+  read_node q h (suc k) (Single f) v = elim v [ ]
+  read_node q h (suc k) (Deep w f m b) v = elim v [ ]
 
   node_is : (h : List (Cell I T)) (k p : ℕ) → node h k p ≡ node_of h k (body h p)
   unfolding node node_of
   node_is h zero p = refl
   node_is h (suc k) p = refl
 
-module _ {I T : Type 0} (h : List (Cell I T)) (k p : ℕ) (w : FormedNode k (node h k p)) where
-  formed_of : FormedNode k (node_of h k (body h p))
-  formed_of = rw (node_is h k p) at w
+module _ {I T Q : Type 0} (q : Algebra I T Q) (h : List (Cell I T)) (k p : ℕ) (w : FormedNode k (node h k p)) (b : Body I T) (e : b ≡ body h p) where
+  reads : (sum_node q (node_of h k (body h p)) ≡ body_sum q (body h p)) × ((count_node (node_of h k (body h p)) ≡ body_count (body h p)) × IsNode (body h p))
+  reads = read_node q h k (body h p) (rw (node_is h k p) at w)
 
-  pub node_within : {Q : Type 0} → Algebra I T Q → p < length h
-  node_within q = within_used h p (read_node q h k (body h p) formed_of).0
+  pub node_weighs : (body_sum q b ≡ sum_node q (node h k p)) × (body_count b ≡ count_node (node h k p))
+  node_weighs =
+      (ap (body_sum q) e ∙ sym (ap (sum_node q) (node_is h k p) ∙ reads.0), ap body_count e ∙ sym (ap count_node (node_is h k p) ∙ reads.1.0))
 
-  pub node_weighs : {Q : Type 0} (q : Algebra I T Q) (b : Body I T) → b ≡ body h p → (body_sum q b ≡ sum_node q (node h k p)) × (body_count b ≡ count_node (node h k p))
-  node_weighs q b e =
-      let r = read_node q h k (body h p) formed_of in
-      let s = ap (sum_node q) (node_is h k p) in
-      let c = ap count_node (node_is h k p) in
-      (ap (body_sum q) e ∙ sym (s ∙ r.1.0), ap body_count e ∙ sym (c ∙ r.1.1.0))
-
-  pub node_other : {Q : Type 0} (q : Algebra I T Q) (b : Body I T) → b ≡ body h p → ((i : I) → b ≡ Item i → ⊥) → ((t : T) (n l r : ℕ) → b ≡ Two t n l r → ⊥) → ((t : T) (n l m r : ℕ) → b ≡ Three t n l m r → ⊥) → ⊥
-  node_other q b e x y z = go b refl (subst Branch (sym e) (read_node q h k (body h p) formed_of).1.1.1)
+  pub node_other : ((i : I) → b ≡ Item i → ⊥) → ((w : Weight T) (f : Fingers) → b ≡ Branch w f → ⊥) → ⊥
+  node_other x y = go b refl (subst IsNode (sym e) reads.1.1)
     where
-      go : (c : Body I T) → b ≡ c → Branch c → ⊥
+      go : (c : Body I T) → b ≡ c → IsNode c → ⊥
       go Free f v = v
       go (Item i) f v = x i f
-      go (Two t n l r) f v = y t n l r f
-      go (Three t n l m r) f v = z t n l m r f
+      go (Branch n g) f v = y n g f
       go (Single g) f v = v
-      go (Deep t n d g m o) f v = v
+      go (Deep n g m o) f v = v
 
-module _ {I T : Type 0} (h : List (Cell I T)) (k p : ℕ) where
+-- what a node is made of
+module _ {I T : Type 0} (h : List (Cell I T)) (k p : ℕ) (v : FormedNode (suc k) (node h (suc k) p)) where
   -- a node that is no item
-  pub no_item : FormedNode (suc k) (node h (suc k) p) → {Q : Type 0} → Algebra I T Q → (b : Body I T) → b ≡ body h p → ((t : T) (n l r : ℕ) → b ≡ Two t n l r → ⊥) → ((t : T) (n l m r : ℕ) → b ≡ Three t n l m r → ⊥) → ⊥
+  pub no_item : (b : Body I T) → b ≡ body h p → ((w : Weight T) (f : Fingers) → b ≡ Branch w f → ⊥) → ⊥
   unfolding node
-  no_item w q b e y z = node_other h (suc k) p w q b e (λ i f. subst (λ x. FormedNode (suc k) (branch_of (node h k) x)) (sym e ∙ f) w) y z
+  no_item b e x = go b refl (subst (λ b. FormedNode (suc k) (branch_of (node h k) b)) (sym e) v)
+    where
+      go : (c : Body I T) → b ≡ c → FormedNode (suc k) (branch_of (node h k) c) → ⊥
+      go Free f u = u
+      go (Item i) f u = u
+      go (Branch n g) f u = x n g f
+      go (Single g) f u = u
+      go (Deep n g m o) f u = u
 
-  pub two_fingers : (s : End) (t : T) (n l r : ℕ) → Two t n l r ≡ body h p → fingers s (node h (suc k) p) ≡ fingers s (two t n (node h k l) (node h k r))
+  node_parts : (w : Weight T) (f : Fingers) → Branch w f ≡ body h p → node h (suc k) p ≡ node_from w.total w.items (nodes h k (held f))
   unfolding node
-  two_fingers s t n l r e = ap (λ b. fingers s (branch_of (node h k) b)) (sym e)
+  node_parts w f e = ap (branch_of (node h k)) (sym e)
 
-  pub three_fingers : (s : End) (t : T) (n l m r : ℕ) → Three t n l m r ≡ body h p → fingers s (node h (suc k) p) ≡ fingers s (three t n (node h k l) (node h k m) (node h k r))
-  unfolding node
-  three_fingers s t n l m r e = ap (λ b. fingers s (branch_of (node h k) b)) (sym e)
+  pub some_parts : (w : Weight T) (f : Fingers) → Branch w f ≡ body h p → 1 ≤ length (held f)
+  some_parts w f e =
+      let l = (branch_parts w.total w.items (nodes h k (held f)) k (subst (FormedNode (suc k)) (node_parts w f e) v)).0 in
+      let n = simp length-map at l in
+      omega arith
+
+  fingers_from : (t : T) (n : ℕ) (ns : List (Node I T)) → FormedNode (suc k) (node_from t n ns) → (ns ≡ fingers front (node_from t n ns)) × (onto ns [] ≡ fingers back (node_from t n ns))
+  fingers_from t n [] u = elim u [ ]
+  fingers_from t n (a ∷ []) u = elim u [ ]
+  fingers_from t n (a ∷ b ∷ []) u = (refl, refl)
+  fingers_from t n (a ∷ b ∷ c ∷ []) u = (refl, refl)
+  fingers_from t n (a ∷ b ∷ c ∷ d ∷ more) u = elim u [ ]
+
+  pub parts_front : (w : Weight T) (f : Fingers) → Branch w f ≡ body h p → (ps : List ℕ) → ps ≡ held f → nodes h k ps ≡ fingers front (node h (suc k) p)
+  parts_front w f e ps i =
+      let o = node_parts w f e in
+      ap (nodes h k) i ∙ (fingers_from w.total w.items (nodes h k (held f)) (subst (FormedNode (suc k)) o v)).0 ∙ sym (ap (fingers front) o)
+
+  pub parts_back : (w : Weight T) (f : Fingers) → Branch w f ≡ body h p → (ps : List ℕ) → ps ≡ onto (held f) [] → nodes h k ps ≡ fingers back (node h (suc k) p)
+  parts_back w f e ps i =
+      let o = node_parts w f e in
+      ap (nodes h k) i ∙ nodes_onto h k (held f) [] ∙ (fingers_from w.total w.items (nodes h k (held f)) (subst (FormedNode (suc k)) o v)).1 ∙ sym (ap (fingers back) o)
 
 -- one finger, and those after it
 module _ {I T Q : Type 0} (q : Algebra I T Q) (s : End) (h : List (Cell I T)) (k : ℕ) where
@@ -123,9 +143,6 @@ module _ {I T Q : Type 0} (q : Algebra I T Q) (s : End) (h : List (Cell I T)) (k
   })
 
 module _ {I T : Type 0} where
-  pub read_body : (h : List (Cell I T)) (p : ℕ) (c : Cell I T) → p < length h → c ≡ get_or h p c → c.body ≡ body h p
-  read_body h p c l e = ap (λ (x : Cell I T). x.body) (get_or_read h p c l e blank)
-
   pub tree_none : (h : List (Cell I T)) (d k p : ℕ) → d ≡ 0 → tree h d k p ≡ none
   unfolding tree
   tree_none h d k p e = rw e
@@ -139,68 +156,58 @@ module _ {I T : Type 0} where
   abbrev Level : Body I T → Type 0
   Level Free = ⊥
   Level (Item i) = ⊥
-  Level (Two t n l r) = ⊥
-  Level (Three t n l m r) = ⊥
+  Level (Branch w f) = ⊥
   Level (Single f) = Unit {0}
-  Level (Deep t n d f m b) = Unit {0}
-
-  level_used : (b : Body I T) → Level b → is_free b ≡ false
-  level_used Free v = elim v [ ]
-  level_used (Item i) v = elim v [ ]
-  level_used (Two t n l r) v = elim v [ ]
-  level_used (Three t n l m r) v = elim v [ ]
-  level_used (Single f) v = refl
-  level_used (Deep t n d f m b) v = refl
+  Level (Deep w f m b) = Unit {0}
 
   formed_level : (d k : ℕ) (here : ℕ → Node I T) (below : ℕ → Tree I T) (b : Body I T) → Formed k (level_of d here below b) → Level b
-  formed_level d k here below Free w = w
-  formed_level d k here below (Item i) w = w
-  formed_level d k here below (Two t n l r) w = w
-  formed_level d k here below (Three t n l m r) w = w
-  formed_level d k here below (Single f) w = tt
-  formed_level d k here below (Deep t n e f m b) w = tt
+  formed_level d k here below Free v = v
+  formed_level d k here below (Item i) v = v
+  formed_level d k here below (Branch w f) v = v
+  formed_level d k here below (Single f) v = tt
+  formed_level d k here below (Deep w f m b) v = tt
 
   single_levels : (d k : ℕ) (a : Node I T) (x : Bool) → eqb d 0 ≡ x → Formed k (cond x (single a) torn) → (cond x (single a) torn ≡ single a) × (d ≡ 0)
   single_levels d k a true e w = (refl, grind (arith, nat_tests, e))
   single_levels d k a false e w = elim w [ ]
 
-  deep_levels : (x : Bool) (k : ℕ) (t : Tree I T) → Formed k (cond x t torn) → cond x t torn ≡ t
-  deep_levels true k t w = refl
-  deep_levels false k t w = elim w [ ]
+  deep_levels : (m d k : ℕ) (t : Tree I T) (x : Bool) → eqb m d ≡ x → Formed k (cond x t torn) → (cond x t torn ≡ t) × (m ≡ d)
+  deep_levels m d k t true e v = (refl, grind (arith, nat_tests, e))
+  deep_levels m d k t false e v = elim v [ ]
 
-module _ {I T : Type 0} (h : List (Cell I T)) (d k p : ℕ) (some : 0 < d) (w : Formed k (tree h d k p)) where
-  level_is : Level (body h p)
-  level_is = formed_level (d - 1) k (node h k) (tree h (d - 1) (suc k)) (body h p) (subst (Formed k) (tree_opened h d k p some) w)
+module _ {I T : Type 0} (h : List (Cell I T)) (k : ℕ) (root : Root) (some : 0 < root.levels) (w : Formed k (rooted h k root)) where
+  level_is : Level (body h root.at)
+  level_is = formed_level (root.levels - 1) k (node h k) (tree h (root.levels - 1) (suc k)) (body h root.at) (subst (Formed k) (tree_opened h root.levels k root.at some) w)
 
-  pub tree_within : p < length h
-  tree_within = within_used h p (level_used (body h p) level_is)
-
-  pub tree_single : (f : ℕ) → Single f ≡ body h p → (tree h d k p ≡ single (node h k f)) × (d ≡ 1)
+  pub tree_single : (f : ℕ) → Single f ≡ body h root.at → (rooted h k root ≡ single (node h k f)) × (root.levels ≡ 1)
   tree_single f e =
-      let o : tree h d k p ≡ cond (eqb (d - 1) 0) (single (node h k f)) torn = tree_opened h d k p some ∙ ap (level_of (d - 1) (node h k) (tree h (d - 1) (suc k))) (sym e) in
-      let r = single_levels (d - 1) k (node h k f) (eqb (d - 1) 0) refl (subst (Formed k) o w) in
+      let d = root.levels - 1 in
+      let o : rooted h k root ≡ cond (eqb d 0) (single (node h k f)) torn = tree_opened h root.levels k root.at some ∙ ap (level_of d (node h k) (tree h d (suc k))) (sym e) in
+      let r = single_levels d k (node h k f) (eqb d 0) refl (subst (Formed k) o w) in
       (o ∙ r.0, omega (arith, r.1))
 
-  pub tree_deep : (t : T) (n c : ℕ) (f : Fingers) (m : ℕ) (b : Fingers) → Deep t n c f m b ≡ body h p → tree h d k p ≡ deep t n (nodes h k (held f)) (tree h (d - 1) (suc k) m) (nodes h k (held b))
-  tree_deep t n c f m b e =
-      let o : tree h d k p ≡ cond (eqb c (suc (d - 1))) (deep t n (nodes h k (held f)) (tree h (d - 1) (suc k) m) (nodes h k (held b))) torn = tree_opened h d k p some ∙ ap (level_of (d - 1) (node h k) (tree h (d - 1) (suc k))) (sym e) in
-      o ∙ deep_levels (eqb c (suc (d - 1))) k _ (subst (Formed k) o w)
+  pub tree_deep : (n : Weight T) (f : Fingers) (m : Root) (b : Fingers) → Deep n f m b ≡ body h root.at → (rooted h k root ≡ deep n.total n.items (nodes h k (held f)) (rooted h (suc k) m) (nodes h k (held b))) × (suc m.levels ≡ root.levels)
+  tree_deep n f m b e =
+      let d = root.levels - 1 in
+      let below = deep n.total n.items (nodes h k (held f)) (tree h d (suc k) m.at) (nodes h k (held b)) in
+      let o : rooted h k root ≡ cond (eqb m.levels d) below torn = tree_opened h root.levels k root.at some ∙ ap (level_of d (node h k) (tree h d (suc k))) (sym e) in
+      let r = deep_levels m.levels d k below (eqb m.levels d) refl (subst (Formed k) o w) in
+      (o ∙ r.0 ∙ ap (λ d. deep n.total n.items (nodes h k (held f)) (tree h d (suc k) m.at) (nodes h k (held b))) (sym r.1), omega (arith, r.1))
 
-  pub tree_digits : (t : T) (n c : ℕ) (f : Fingers) (m : ℕ) (b : Fingers) → Deep t n c f m b ≡ body h p → (1 ≤ length (held f)) × (1 ≤ length (held b))
-  tree_digits t n c f m b e =
-      let v = subst (Formed k) (tree_deep t n c f m b e) w in
+  pub tree_digits : (n : Weight T) (f : Fingers) (m : Root) (b : Fingers) → Deep n f m b ≡ body h root.at → (1 ≤ length (held f)) × (1 ≤ length (held b))
+  tree_digits n f m b e =
+      let v = subst (Formed k) (tree_deep n f m b e).0 w in
       (simp length-map at v.1.0.0, simp length-map at v.1.1.1.0)
 
-  pub tree_other : (b : Body I T) → b ≡ body h p → ((f : ℕ) → b ≡ Single f → ⊥) → ((t : T) (n c : ℕ) (f : Fingers) (m : ℕ) (g : Fingers) → b ≡ Deep t n c f m g → ⊥) → ⊥
+  pub tree_other : (b : Body I T) → b ≡ body h root.at → ((f : ℕ) → b ≡ Single f → ⊥) → ((n : Weight T) (f : Fingers) (m : Root) (g : Fingers) → b ≡ Deep n f m g → ⊥) → ⊥
   tree_other b e x y = go b refl (subst Level (sym e) level_is)
     where
       go : (c : Body I T) → b ≡ c → Level c → ⊥
       go Free f v = v
       go (Item i) f v = v
-      go (Two t n l r) f v = v
-      go (Three t n l m r) f v = v
+      go (Branch n g) f v = v
       go (Single g) f v = x g f
-      go (Deep t n d g m o) f v = y t n d g m o f
+      go (Deep n g m o) f v = y n g m o f
 
 module _ {I T : Type 0} (d k : ℕ) (here : ℕ → Node I T) (below : ℕ → Tree I T) (deeper : (m : ℕ) → Formed (suc k) (below m) → levels (below m) ≡ d) where
   single_read : (x : Bool) (a : Node I T) → eqb d 0 ≡ x → Formed k (cond x (single a) torn) → levels (cond x (single a) torn) ≡ suc d
@@ -214,10 +221,9 @@ module _ {I T : Type 0} (d k : ℕ) (here : ℕ → Node I T) (below : ℕ → T
   level_read : (b : Body I T) → Formed k (level_of d here below b) → levels (level_of d here below b) ≡ suc d
   level_read Free v = elim v [ ]
   level_read (Item i) v = elim v [ ]
-  level_read (Two t n l r) v = elim v [ ]
-  level_read (Three t n l m r) v = elim v [ ]
+  level_read (Branch w f) v = elim v [ ]
   level_read (Single f) v = single_read (eqb d 0) (here f) refl v
-  level_read (Deep t n c f m b) v = deep_read (eqb c (suc d)) t n (map here (held f)) m (map here (held b)) v
+  level_read (Deep w f m b) v = deep_read (eqb m.levels d) w.total w.items (map here (held f)) m.at (map here (held b)) v
 
 -- as many levels as the root says
 pub levels_read : {I T : Type 0} (h : List (Cell I T)) (d k p : ℕ) → Formed k (tree h d k p) → levels (tree h d k p) ≡ d
@@ -231,14 +237,12 @@ module _ {I T : Type 0} (h : List (Cell I T)) (k : ℕ) where
   each_first (p ∷ ps) l w = w.0
 
 -- a level, seen from either side
-module _ {I T : Type 0} (h : List (Cell I T)) (k : ℕ) (root m : Root) (f b : Filled) (t : T) (n : ℕ) (w : Formed k (tree h root.levels k root.at)) (e : tree h root.levels k root.at ≡ deep t n (nodes h k (listed f)) (tree h m.levels (suc k) m.at) (nodes h k (listed b))) (l : suc m.levels ≡ root.levels) where
-  pub from_front : SeenDeep h k front root f m b
-  from_front =
+module _ {I T : Type 0} (h : List (Cell I T)) (k : ℕ) (root m : Root) (f b : Filled) (t : T) (n : ℕ) (w : Formed k (rooted h k root)) (e : rooted h k root ≡ deep t n (nodes h k (listed f)) (rooted h (suc k) m) (nodes h k (listed b))) (l : suc m.levels ≡ root.levels) where
+  pub from_side : (s : End) → SeenDeep h k s root (in_order s f b).0 m (in_order s f b).1
+  from_side front =
       let v = subst (Formed k) e w in
       record { total = t; items = n; is = e; levels = l; near_formed = v.1.0.1.1; middle_formed = v.1.1.0; far_formed = v.1.1.1.1.1; counts = ap count e ∙ v.0 }
-
-  pub from_back : SeenDeep h k back root b m f
-  from_back =
+  from_side back =
       let v = subst (Formed k) e w in
       record { total = t; items = n; is = e; levels = l; near_formed = v.1.1.1.1.1; middle_formed = v.1.1.0; far_formed = v.1.0.1.1; counts = ap count e ∙ omega (arith, v.0) }
 
@@ -250,7 +254,10 @@ only_item h p w b e no_item = go b refl (subst (λ b. FormedNode 0 (leaf_of b)) 
     go : (c : Body _ _) → b ≡ c → FormedNode 0 (leaf_of c) → ⊥
     go Free f v = v
     go (Item i) f v = no_item i f
-    go (Two t n l r) f v = v
-    go (Three t n l m r) f v = v
+    go (Branch n g) f v = v
     go (Single g) f v = v
-    go (Deep t n d g m o) f v = v
+    go (Deep n g m o) f v = v
+
+pub item_reads : {I T : Type 0} (h : List (Cell I T)) (p : ℕ) (i : I) → Item i ≡ body h p → node h 0 p ≡ leaf i
+unfolding node
+item_reads h p i e = ap leaf_of (sym e)

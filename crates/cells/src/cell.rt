@@ -1,3 +1,4 @@
+// Cells, and what they hold.
 use super::fingers::Fingers;
 
 // A cell of a store. The link is the next free cell, where this one is free.
@@ -14,28 +15,17 @@ pub enum Body<I, T> {
     Item {
         item: I,
     },
-    Two {
-        total: T,
-        items: u32,
-        left: u32,
-        right: u32,
-    },
-    Three {
-        total: T,
-        items: u32,
-        left: u32,
-        middle: u32,
-        right: u32,
+    Node {
+        weight: Weight<T>,
+        parts: Fingers,
     },
     Single {
         finger: u32,
     },
     Deep {
-        total: T,
-        items: u32,
-        levels: u8,
+        weight: Weight<T>,
         front: Fingers,
-        middle: u32,
+        middle: Root,
         back: Fingers,
     },
 }
@@ -54,16 +44,12 @@ pub struct Root {
     pub at: u32,
 }
 
+// The empty tree, which stands on no cell.
+pub const EMPTY: Root = Root { levels: 0, at: 0 };
+
 // What a node, some fingers or a tree come to.
 #[derive(Clone, Copy)]
 pub struct Weight<T> {
     pub total: T,
     pub items: u32,
-}
-
-// An end of a tree.
-#[derive(Clone, Copy)]
-pub enum Side {
-    Front,
-    Back,
 }

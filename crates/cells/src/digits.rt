@@ -1,131 +1,139 @@
 // What is done with the fingers at one end of a level.
-ghost use Rattle.std.specs.Prelude.{◌≡◌, ℕ, ◌+◌, ◌-◌, ◌<◌, ◌≤◌, List, [], ◌∷◌, ◌++◌, length, MatchOption, slice_index};
+ghost use Rattle.std.specs.Prelude.{◌≡◌, ℕ, ◌+◌, ◌-◌, ◌<◌, ◌≤◌, List, [], ◌∷◌, ◌++◌, length, MatchOption, slice_set};
 ghost use Rattle.cells.specs.Fingers.{listed, listed_some, held};
 ghost use Rattle.model.specs.Append.{onto};
 
 use super::fingers::{Digit, Fingers};
 
-pub fn digit(fingers: Fingers) -> Option<Digit>
-    ensures { MatchOption result (1 ≤ length (held fingers) → ⊥) (λ d. listed d ≡ held fingers) }
-{
-    let at = fingers.at;
-    if fingers.count >= 1 && fingers.count <= 4 {
-        Some(Digit {
-            count: fingers.count,
-            at,
-        })
-    } else {
-        None
+impl Fingers {
+    // The fingers as a digit, if there are one to four.
+    pub fn digit(self) -> Option<Digit>
+        ensures { MatchOption result (1 ≤ length (held self) → ⊥) (λ d. listed d ≡ held self) }
+    {
+        let Fingers { count, at } = self;
+        if 1 <= count && count <= 4 {
+            Some(Digit { count, at })
+        } else {
+            None
+        }
     }
 }
 
-pub fn fingers(digit: Digit) -> Fingers
-    ensures { held result ≡ listed digit }
-{
-    let at = digit.at;
-    Fingers {
-        count: digit.count,
-        at,
+impl Digit {
+    // The same fingers as a cell holds them.
+    pub fn plain(self) -> Fingers
+        ensures { held result ≡ listed self }
+    {
+        let Digit { count, at } = self;
+        Fingers { count, at }
     }
-}
 
-pub fn one(a: u32) -> Digit
-    ensures { listed result ≡ a ∷ [] }
-{
-    Digit {
-        count: 1,
-        at: [a, 0, 0, 0],
+    // So many fingers, from one to four.
+    pub fn of<const N: usize>(fingers: [u32; N]) -> Digit
+        requires some { 1 ≤ N }
+        requires few { N ≤ 4 }
+        ensures { listed result ≡ fingers.entry }
+    {
+        let mut at = [0; 4];
+        at[..N].copy_from_slice(&fingers);
+        Digit { count: N as u8, at }
     }
-}
 
-pub fn two(a: u32, b: u32) -> Digit
-    ensures { listed result ≡ a ∷ b ∷ [] }
-{
-    Digit {
-        count: 2,
-        at: [a, b, 0, 0],
+    // One finger more, before the others.
+    pub fn prepend(self, finger: u32) -> Digit
+        requires { length (listed self) < 4 }
+        ensures { listed result ≡ finger ∷ listed self }
+    {
+        let [a, b, c, _] = self.at;
+        Digit {
+            count: self.count + 1,
+            at: [finger, a, b, c],
+        }
     }
-}
 
-pub fn three(a: u32, b: u32, c: u32) -> Digit
-    ensures { listed result ≡ a ∷ b ∷ c ∷ [] }
-{
-    Digit {
-        count: 3,
-        at: [a, b, c, 0],
-    }
-}
-
-pub fn prepend(a: u32, digit: Digit) -> Digit
-    requires { length (listed digit) < 4 }
-    ensures { listed result ≡ a ∷ listed digit }
-{
-    let [b, c, d, _] = digit.at;
-    Digit {
-        count: digit.count + 1,
-        at: [a, b, c, d],
-    }
-}
-
-// The fingers after the first.
-pub fn rest(digit: Digit) -> Option<Digit>
-    ensures { MatchOption result (listed digit ≡ slice_index (listed digit) 0 ∷ []) (λ d. listed digit ≡ slice_index (listed digit) 0 ∷ listed d) }
-{
-    let [_, b, c, d] = digit.at;
-    if digit.count > 1 {
-        Some(Digit {
-            count: digit.count - 1,
+    // The first finger, and those after it.
+    pub fn split_first(self) -> (u32, Option<Digit>)
+        ensures { listed self ≡ result.0 ∷ listed_some result.1 }
+    {
+        let [a, b, c, d] = self.at;
+        if self.count == 1 {
+            return (a, None);
+        }
+        let rest = Digit {
+            count: self.count - 1,
             at: [b, c, d, 0],
-        })
-    } else {
-        None
+        };
+        (a, Some(rest))
+    }
+
+    // The last finger, and those before it.
+    pub fn split_last(self) -> (Option<Digit>, u32)
+        ensures { listed self ≡ listed_some result.0 ++ (result.1 ∷ []) }
+    {
+        let last = self.at[(self.count - 1) as usize];
+        if self.count == 1 {
+            return (None, last);
+        }
+        let init = Digit {
+            count: self.count - 1,
+            at: self.at,
+        };
+        (Some(init), last)
+    }
+
+    // The same fingers, but for one.
+    pub fn with_finger(self, i: u8, finger: u32) -> Digit
+        requires { i < length (listed self) }
+        ensures { listed result ≡ slice_set (listed self) i finger }
+    {
+        let mut at = self.at;
+        at[i as usize] = finger;
+        Digit {
+            count: self.count,
+            at,
+        }
+    }
+
+    // The same fingers from the other end.
+    pub fn reversed(self) -> Digit
+        ensures { listed result ≡ onto (listed self) [] }
+    {
+        let [a, b, c, d] = self.at;
+        let at = match self.count {
+            1 => [a, 0, 0, 0],
+            2 => [b, a, 0, 0],
+            3 => [c, b, a, 0],
+            _ => [d, c, b, a],
+        };
+        Digit {
+            count: self.count,
+            at,
+        }
     }
 }
 
-pub fn finger(digit: Digit, i: u8) -> u32
-    requires { i < length (listed digit) }
-    ensures { result ≡ slice_index (listed digit) i }
+// How many fingers there are.
+pub fn count_of(run: Option<Digit>) -> u8
+    ensures is { result ≡ length (listed_some run) }
+    ensures few { result ≤ 4 }
 {
-    digit.at[i as usize]
+    run.map_or(0, |digit| digit.count)
 }
 
-// The fingers but the last.
-pub fn init(digit: Digit) -> Digit
-    requires { 1 < digit.count }
-    ensures { listed digit ≡ listed result ++ (slice_index (listed digit) (digit.count - 1) ∷ []) }
+// One finger more, before the others.
+pub fn prepend_some(finger: u32, run: Option<Digit>) -> Digit
+    requires { length (listed_some run) < 4 }
+    ensures { listed result ≡ finger ∷ listed_some run }
 {
-    let at = digit.at;
-    Digit {
-        count: digit.count - 1,
-        at,
+    match run {
+        Some(digit) => digit.prepend(finger),
+        None => Digit::of([finger]),
     }
 }
 
 // The same fingers from the other end.
-pub fn reversed(digit: Digit) -> Digit
-    ensures { listed result ≡ onto (listed digit) [] }
+pub fn reversed_some(run: Option<Digit>) -> Option<Digit>
+    ensures { listed_some result ≡ onto (listed_some run) [] }
 {
-    let [a, b, c, d] = digit.at;
-    if digit.count == 1 {
-        return one(a);
-    }
-    if digit.count == 2 {
-        return two(b, a);
-    }
-    if digit.count == 3 {
-        return three(c, b, a);
-    }
-    Digit {
-        count: 4,
-        at: [d, c, b, a],
-    }
-}
-
-pub fn reversed_some(digit: Option<Digit>) -> Option<Digit>
-    ensures { listed_some result ≡ onto (listed_some digit) [] }
-{
-    match digit {
-        Some(fingers) => Some(reversed(fingers)),
-        None => None,
-    }
+    run.map(Digit::reversed)
 }

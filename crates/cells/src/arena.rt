@@ -1,0 +1,65 @@
+// The lent cells with the list of the free ones, and the taking of a free cell.
+ghost use Rattle.std.specs.Prelude.{◌≡◌, ◌<◌, List, false};
+ghost use Rattle.cells.specs.Cells.{is_free};
+ghost use Rattle.cells.specs.Cells.{body as body_of};
+ghost use Rattle.cells.specs.Chain.{Sound, Taken, free_cells};
+ghost use Rattle.cells.specs.declared.cell.Cell.{Cell as CellOf};
+
+use super::cell::{Body, Cell, FreeList};
+use std::marker::Model;
+
+/// The cells that are lent, and the list of the free ones among them. A contract sees the cells; that the list has all
+/// the free cells, each once, holds of every arena.
+#[derive(Drop)]
+pub struct Arena<'a, I, T> {
+    cells: &'a mut [Cell<I, T>],
+    free: FreeList,
+}
+
+impl<'a, I, T> Model for Arena<'a, I, T> {
+    ghost Value = { List (CellOf I T) };
+
+    ghost view = { λ a. a.cells.now };
+
+    ghost invariant = { λ a. Sound a.cells.now a.free };
+}
+
+impl<I: Copy, T: Copy> Arena<'_, I, T> {
+    /// What a cell holds; past the last, nothing.
+    pub fn body(&self, at: u32) -> Body<I, T>
+        ensures { result ≡ body_of self.now at }
+    {
+        if at as usize >= self.cells.len() {
+            return Body::Free;
+        }
+        self.cells[at as usize].body
+    }
+
+    /// Has a free cell hold something.
+    pub fn take(&mut self, body: Body<I, T>) -> u32
+        requires used { is_free body ≡ false }
+        requires some { 0 < free_cells self.old }
+        ensures { Taken self.old self.new result body }
+    {
+        take_cell(self.cells, &mut self.free, body)
+    }
+}
+
+fn take_cell<I: Copy, T: Copy>(
+    cells: &mut [Cell<I, T>],
+    free: &mut FreeList,
+    body: Body<I, T>,
+) -> u32
+    requires used { is_free body ≡ false }
+    requires some { 0 < free.old.count }
+    requires sound { Sound cells.old free.old }
+    ensures taken { Taken cells.old cells.new result body }
+    ensures sound { Sound cells.new free.new }
+{
+    let at = free.first;
+    let cell = cells[at as usize];
+    cells[at as usize] = Cell { link: 0, body };
+    free.first = cell.link;
+    free.count -= 1;
+    at
+}
