@@ -12,7 +12,7 @@ use Rattle.cells.specs.Made.{SeenDeep}
 use Rattle.cells.specs.declared.cell.Root.{Root}
 use Rattle.cells.specs.declared.fingers.Digit.{Digit as Filled}
 use Rattle.model.proofs.Popping.{fingers_formed, count_fingers}
-use Rattle.cells.specs.Cells.{body, leaf_of, node, nodes, tree}
+use Rattle.cells.specs.Cells.{body, leaf_of, node, nodes, tree, rooted}
 use Rattle.cells.specs.declared.cell.Cell.{Cell}
 use Rattle.cells.specs.declared.cell.Body.{Body}
 use Rattle.cells.specs.declared.cell.Body.TheVariants.{Free, Item, Two, Three, Single, Deep}
@@ -63,31 +63,31 @@ nodes_onto h k (x ∷ xs) ys = nodes_onto h k xs (x ∷ ys)
 
 -- a level, from the left: the items at its front, in its middle and at its back
 module _ {I T : Type 0} (h : List (Cell I T)) (k : ℕ) (root : Root) {f b : Filled} {m : Root} (seen : SeenDeep h k front root f m b) (i : ℕ) (x : I) where
-  level_items : items (tree h root.levels k root.at) ≡ run front (nodes h k (listed f)) ++ (items (tree h m.levels (suc k) m.at) ++ run back (nodes h k (listed b)))
+  level_items : items (rooted h k root) ≡ run front (nodes h k (listed f)) ++ (items (rooted h (suc k) m) ++ run back (nodes h k (listed b)))
   level_items = ap items seen.is
 
   front_long : count_run (nodes h k (listed f)) ≡ length (run front (nodes h k (listed f)))
   front_long = count_run_is front k (nodes h k (listed f)) seen.near_formed
 
-  middle_long : count (tree h m.levels (suc k) m.at) ≡ length (items (tree h m.levels (suc k) m.at))
-  middle_long = count_is (suc k) (tree h m.levels (suc k) m.at) seen.middle_formed
+  middle_long : count (rooted h (suc k) m) ≡ length (items (rooted h (suc k) m))
+  middle_long = count_is (suc k) (rooted h (suc k) m) seen.middle_formed
 
-  pub at_front : i < count_run (nodes h k (listed f)) → x ≡ get_or (run front (nodes h k (listed f))) i x → x ≡ get_or (items (tree h root.levels k root.at)) i x
+  pub at_front : i < count_run (nodes h k (listed f)) → x ≡ get_or (run front (nodes h k (listed f))) i x → x ≡ get_or (items (rooted h k root)) i x
   at_front l e = e ∙ sym (ap (λ xs. get_or xs i x) level_items ∙ get_or_append_left (run front (nodes h k (listed f))) _ x i (omega (arith, front_long)))
 
   module _ (n : ℕ) (a : n ≡ count_run (nodes h k (listed f))) (past : n ≤ i) where
-    after_front : get_or (items (tree h root.levels k root.at)) i x ≡ get_or (items (tree h m.levels (suc k) m.at) ++ run back (nodes h k (listed b))) (i - n) x
+    after_front : get_or (items (rooted h k root)) i x ≡ get_or (items (rooted h (suc k) m) ++ run back (nodes h k (listed b))) (i - n) x
     after_front = ap (λ xs. get_or xs i x) level_items ∙ get_or-append_right (run front (nodes h k (listed f))) _ n i x (sym front_long ∙ sym a) past
 
-    pub at_middle : (k' : ℕ) → suc k ≡ k' → i - n < count (tree h m.levels k' m.at) → x ≡ get_or (items (tree h m.levels k' m.at)) (i - n) x → x ≡ get_or (items (tree h root.levels k root.at)) i x
+    pub at_middle : (k' : ℕ) → suc k ≡ k' → i - n < count (tree h m.levels k' m.at) → x ≡ get_or (items (tree h m.levels k' m.at)) (i - n) x → x ≡ get_or (items (rooted h k root)) i x
     at_middle k' s l e =
-        let c = ap (λ j. count (tree h m.levels j m.at)) s in
-        e ∙ ap (λ j. get_or (items (tree h m.levels j m.at)) (i - n) x) (sym s) ∙ sym (after_front ∙ get_or_append_left (items (tree h m.levels (suc k) m.at)) (run back (nodes h k (listed b))) x (i - n) (omega (arith, middle_long, c)))
+        let c = ap (λ j. count (rooted h j m)) s in
+        e ∙ ap (λ j. get_or (items (rooted h j m)) (i - n) x) (sym s) ∙ sym (after_front ∙ get_or_append_left (items (rooted h (suc k) m)) (run back (nodes h k (listed b))) x (i - n) (omega (arith, middle_long, c)))
 
-    pub at_back : (o : ℕ) → o ≡ count (tree h m.levels (suc k) m.at) → o ≤ i - n → (ps : List ℕ) → ps ≡ onto (listed b) [] → x ≡ get_or (run front (nodes h k ps)) (i - n - o) x → x ≡ get_or (items (tree h root.levels k root.at)) i x
+    pub at_back : (o : ℕ) → o ≡ count (rooted h (suc k) m) → o ≤ i - n → (ps : List ℕ) → ps ≡ onto (listed b) [] → x ≡ get_or (run front (nodes h k ps)) (i - n - o) x → x ≡ get_or (items (rooted h k root)) i x
     at_back o c l ps e y =
         let turned : run front (nodes h k ps) ≡ run back (nodes h k (listed b)) = ap (run front) (ap (nodes h k) e ∙ nodes_onto h k (listed b) []) ∙ run_onto (nodes h k (listed b)) [] ∙ append-nil _ in
-        y ∙ ap (λ xs. get_or xs (i - n - o) x) turned ∙ sym (after_front ∙ get_or-append_right (items (tree h m.levels (suc k) m.at)) (run back (nodes h k (listed b))) o (i - n) x (sym middle_long ∙ sym c) l)
+        y ∙ ap (λ xs. get_or xs (i - n - o) x) turned ∙ sym (after_front ∙ get_or-append_right (items (rooted h (suc k) m)) (run back (nodes h k (listed b))) o (i - n) x (sym middle_long ∙ sym c) l)
 
 module _ {I T : Type 0} (h : List (Cell I T)) (k : ℕ) (root : Root) {f b : Filled} {m : Root} (seen : SeenDeep h k front root f m b) where
   pub back_ready : (ps : List ℕ) → ps ≡ onto (listed b) [] → Each k (nodes h k ps)

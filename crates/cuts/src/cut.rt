@@ -8,7 +8,7 @@ ghost use Rattle.cells.specs.Fingers.{listed};
 ghost use Rattle.cells.specs.Fingers.{listed_some};
 ghost use Rattle.cuts.specs.Cuts.{cut_at};
 
-use cells::cell::Cell;
+use cells::arena::Arena;
 use cells::digits;
 use cells::fingers::Digit;
 use cells::read::weigh;
@@ -29,28 +29,28 @@ pub fn prepend_some(finger: u32, digit: Option<Digit>) -> Digit
     ensures { listed result ≡ finger ∷ listed_some digit }
 {
     match digit {
-        Some(others) => digits::prepend(finger, others),
-        None => digits::one(finger),
+        Some(others) => others.prepend(finger),
+        None => Digit::of([finger]),
     }
 }
 
 // Fingers listed from the left, cut at the one that has the position. `passed` are those before them, listed from the
 // right.
 pub fn cut_digit<K: Kind>(
-    cells: &[Cell<K::Item, K::Total>],
+    arena: &Arena<'_, K::Item, K::Total>,
     level: u32,
     position: u32,
     passed: Option<Digit>,
     digit: Digit,
 ) -> Cut
     requires few { length (listed_some passed) + digit.count ≤ 4 }
-    requires formed { Each level (nodes cells.now level (listed digit)) }
-    requires within { position < count_run (nodes cells.now level (listed digit)) }
-    ensures { cut_at cells.now level result ≡ cut_of position (nodes cells.now level (listed_some passed)) (nodes cells.now level (listed digit)) }
+    requires formed { Each level (nodes arena.now level (listed digit)) }
+    requires within { position < count_run (nodes arena.now level (listed digit)) }
+    ensures { cut_at arena.now level result ≡ cut_of position (nodes arena.now level (listed_some passed)) (nodes arena.now level (listed digit)) }
 {
     let finger = digits::finger(digit, 0);
     let others = digits::rest(digit);
-    let weight = weigh::<K>(cells, level, finger);
+    let weight = weigh::<K>(arena, level, finger);
     if position < weight.items {
         return Cut {
             before: passed,
@@ -62,7 +62,7 @@ pub fn cut_digit<K: Kind>(
     match others {
         Some(rest) => {
             let more = prepend_some(finger, passed);
-            cut_digit::<K>(cells, level, position - weight.items, Some(more), rest)
+            cut_digit::<K>(arena, level, position - weight.items, Some(more), rest)
         }
         None => unreachable(),
     }

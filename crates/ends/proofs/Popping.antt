@@ -8,13 +8,12 @@ use Rattle.model.specs.Ends.{Popped as Taken}
 use Rattle.model.specs.Forms.{Each, Formed}
 use Rattle.model.proofs.Forms.{count_is, count_node_is, length_along}
 use Rattle.model.proofs.Popping.{Came, popped}
-use Rattle.cells.specs.Cells.{node, nodes, tree}
+use Rattle.cells.specs.Cells.{node, nodes, tree, rooted}
 use Rattle.cells.specs.Fingers.{listed}
 use Rattle.cells.specs.Chain.{Grown, Sound}
 use Rattle.cells.specs.Made.{MadeTree, deep_of, SeenDeep}
 use Rattle.cells.specs.declared.cell.Cell.{Cell}
 use Rattle.cells.specs.declared.cell.Root.{Root}
-use Rattle.cells.specs.declared.cell.FreeList.{FreeList}
 use Rattle.cells.specs.declared.fingers.Digit.{Digit as Filled}
 use Rattle.cells.proofs.Frames.{keep_node, keep_nodes, grown_more}
 use Rattle.cells.proofs.Opened.{levels_read, tree_none}
@@ -60,24 +59,24 @@ module _ {I T : Type 0} (h : List (Cell I T)) (k : ℕ) where
   count_append (p ∷ ps) rs = omega (arith, count_append ps rs)
 
 module _ {I T : Type 0} where
-  pub grown_none : {h : List (Cell I T)} {f : FreeList} (c : ℕ) → Sound h f → Grown h h f f c
-  grown_none c u = record { extends = record { long = refl; kept = λ p used. refl }; sound = u; spent = omega arith }
+  pub grown_none : {h : List (Cell I T)} (c : ℕ) → Sound h f → Grown h h c
+  grown_none c u = record { extends = record { long = refl; kept = λ p used. refl }; spent = omega arith }
 
   -- what came of a tree m
   came_well : (s : Side) (h : List (Cell I T)) (k : ℕ) (m : Tree I T) (r : Option Popped) → Formed k m → Came k s m (popped_of h k r) → PoppedWell h k r × ((popped_levels r ≤ levels m) × (count_popped (popped_of h k r) ≤ count m))
   came_well s h k m None w c = (tt, (omega arith, omega arith))
   came_well s h k m (Some x) w c =
       let l = levels_read h x.rest.levels k x.rest.at c.1.0 in
-      let n = count_is k m w ∙ ap length c.1.1.0 ∙ length_along s (items_node (node h k x.finger)) (items (tree h x.rest.levels k x.rest.at)) in
+      let n = count_is k m w ∙ ap length c.1.1.0 ∙ length_along s (items_node (node h k x.finger)) (items (rooted h k x.rest)) in
       ((c.0, c.1.0), (elim c.1.1.1 [ inl e ↦ omega arith | inr e ↦ omega arith ], omega (arith, n, count_node_is k _ c.0, count_is k _ c.1.0)))
 
 -- the middle m of a level whose fingers at the side are gone
-module _ {I T Q : Type 0} (q : Algebra I T Q) (s : Side) (h : List (Cell I T)) (k : ℕ) (m : Root) (w : Formed (suc k) (tree h m.levels (suc k) m.at)) (far : List ℕ) (v : Each k (nodes h k far)) {h₁ : List (Cell I T)} {f f₁ : FreeList} {c k' : ℕ} {r : Option Popped} (i : suc k ≡ k') (below : MadePop h h₁ f f₁ c k' r (pop q s (tree h m.levels k' m.at))) where
-  below_reads : popped_of h₁ (suc k) r ≡ pop q s (tree h m.levels (suc k) m.at)
-  below_reads = subst (λ j. popped_of h₁ j r ≡ pop q s (tree h m.levels j m.at)) (sym i) below.reads
+module _ {I T Q : Type 0} (q : Algebra I T Q) (s : Side) (h : List (Cell I T)) (k : ℕ) (m : Root) (w : Formed (suc k) (rooted h (suc k) m)) (far : List ℕ) (v : Each k (nodes h k far)) {h₁ : List (Cell I T)} {c k' : ℕ} {r : Option Popped} (i : suc k ≡ k') (below : MadePop h h₁ c k' r (pop q s (tree h m.levels k' m.at))) where
+  below_reads : popped_of h₁ (suc k) r ≡ pop q s (rooted h (suc k) m)
+  below_reads = subst (λ j. popped_of h₁ j r ≡ pop q s (rooted h j m)) (sym i) below.reads
 
-  well : PoppedWell h₁ (suc k) r × ((popped_levels r ≤ levels (tree h m.levels (suc k) m.at)) × (count_popped (popped_of h₁ (suc k) r) ≤ count (tree h m.levels (suc k) m.at)))
-  well = came_well s h₁ (suc k) (tree h m.levels (suc k) m.at) r w (subst (Came (suc k) s (tree h m.levels (suc k) m.at)) (sym below_reads) (popped q s (suc k) (tree h m.levels (suc k) m.at) w))
+  well : PoppedWell h₁ (suc k) r × ((popped_levels r ≤ levels (rooted h (suc k) m)) × (count_popped (popped_of h₁ (suc k) r) ≤ count (rooted h (suc k) m)))
+  well = came_well s h₁ (suc k) (rooted h (suc k) m) r w (subst (Came (suc k) s (rooted h (suc k) m)) (sym below_reads) (popped q s (suc k) (rooted h (suc k) m) w))
 
   pub below_well : PoppedWell h₁ (suc k) r
   below_well = well.0
@@ -91,34 +90,34 @@ module _ {I T Q : Type 0} (q : Algebra I T Q) (s : Side) (h : List (Cell I T)) (
   pub far_ready : Each k (nodes h₁ k far)
   far_ready = subst (Each k) (sym far_kept) v
 
-  pub refill_count : count_popped (popped_of h₁ (suc k) r) + count_run (nodes h₁ k far) ≤ count (tree h m.levels (suc k) m.at) + count_run (nodes h k far)
+  pub refill_count : count_popped (popped_of h₁ (suc k) r) + count_run (nodes h₁ k far) ≤ count (rooted h (suc k) m) + count_run (nodes h k far)
   refill_count = let n = ap count_run far_kept in let u = well.1.1 in omega arith
 
-  pub emptied : {h₂ : List (Cell I T)} {f₂ : FreeList} {o : Root} (e : ℕ) → c + 1 ≤ e → MadeTree h₁ h₂ f₁ f₂ 1 k o (trim q s [] none (nodes h₁ k far) (popped_of h₁ (suc k) r)) → MadeTree h h₂ f f₂ e k o (trim q s [] (tree h m.levels (suc k) m.at) (nodes h k far) (pop q s (tree h m.levels (suc k) m.at)))
+  pub emptied : {h₂ : List (Cell I T)} {o : Root} (e : ℕ) → c + 1 ≤ e → MadeTree h₁ h₂ 1 k o (trim q s [] none (nodes h₁ k far) (popped_of h₁ (suc k) r)) → MadeTree h h₂ e k o (trim q s [] (rooted h (suc k) m) (nodes h k far) (pop q s (rooted h (suc k) m)))
   emptied e l u = record {
     grown = grown_more e below.grown u.grown l;
-    reads = u.reads ∙ rw (far_kept, below_reads) (trim_none q s (tree h m.levels (suc k) m.at) (nodes h k far) (pop q s (tree h m.levels (suc k) m.at)));
+    reads = u.reads ∙ rw (far_kept, below_reads) (trim_none q s (rooted h (suc k) m) (nodes h k far) (pop q s (rooted h (suc k) m)));
   }
 
 -- a tree that has fingers a and then `others` at the side
 module _ {I T Q : Type 0} (q : Algebra I T Q) (s : Side) (h : List (Cell I T)) (k : ℕ) (root : Root) {near far : Filled} {m : Root} (seen : SeenDeep h k s root near m far) (a : ℕ) (others : List ℕ) (split : listed near ≡ a ∷ others) where
-  popped_is : pop q s (tree h root.levels k root.at) ≡ got (node h k a) (trim q s (nodes h k others) (tree h m.levels (suc k) m.at) (nodes h k (listed far)) (pop q s (tree h m.levels (suc k) m.at)))
-  popped_is = ap (pop q s) (seen.is ∙ ap (λ ps. deep_of s seen.total seen.items (nodes h k ps) (tree h m.levels (suc k) m.at) (nodes h k (listed far))) split) ∙ pop_near q s seen.total seen.items (node h k a) (nodes h k others) _ _
+  popped_is : pop q s (rooted h k root) ≡ got (node h k a) (trim q s (nodes h k others) (rooted h (suc k) m) (nodes h k (listed far)) (pop q s (rooted h (suc k) m)))
+  popped_is = ap (pop q s) (seen.is ∙ ap (λ ps. deep_of s seen.total seen.items (nodes h k ps) (rooted h (suc k) m) (nodes h k (listed far))) split) ∙ pop_near q s seen.total seen.items (node h k a) (nodes h k others) _ _
 
   first_formed : Each k (nodes h k (a ∷ others))
   first_formed = subst (λ ps. Each k (nodes h k ps)) split seen.near_formed
 
-  pub pop_first : {h' : List (Cell I T)} {f f' : FreeList} {o : Root} → MadeTree h h' f f' root.levels k o (trim q s (nodes h k others) (tree h m.levels (suc k) m.at) (nodes h k (listed far)) (pop q s (tree h m.levels (suc k) m.at))) → MadePop h h' f f' root.levels k (Some (record { finger = a; rest = o })) (pop q s (tree h root.levels k root.at))
+  pub pop_first : {h' : List (Cell I T)} {o : Root} → MadeTree h h' root.levels k o (trim q s (nodes h k others) (rooted h (suc k) m) (nodes h k (listed far)) (pop q s (rooted h (suc k) m))) → MadePop h h' root.levels k (Some (record { finger = a; rest = o })) (pop q s (rooted h k root))
   pop_first u = record { grown = u.grown; reads = rw (keep_node u.grown.extends k a first_formed.0, u.reads) (sym popped_is) }
 
-  pub trimmed_some : {h' : List (Cell I T)} {f f' : FreeList} {o : Root} → 1 ≤ length others → MadeTree h h' f f' 1 k o (deep_at q s (nodes h k others) (tree h m.levels (suc k) m.at) (nodes h k (listed far))) → MadeTree h h' f f' root.levels k o (trim q s (nodes h k others) (tree h m.levels (suc k) m.at) (nodes h k (listed far)) (pop q s (tree h m.levels (suc k) m.at)))
+  pub trimmed_some : {h' : List (Cell I T)} {o : Root} → 1 ≤ length others → MadeTree h h' 1 k o (deep_at q s (nodes h k others) (rooted h (suc k) m) (nodes h k (listed far))) → MadeTree h h' root.levels k o (trim q s (nodes h k others) (rooted h (suc k) m) (nodes h k (listed far)) (pop q s (rooted h (suc k) m)))
   trimmed_some l u =
       let some : 1 ≤ length (nodes h k others) = simp length-map l in
       let z = seen.levels in
       made_as root.levels _ u (trim_some q s (nodes h k others) _ _ _ some) (omega arith)
 
 -- fingers that are left at the side
-pub trimmed_near : {I T : Type 0} {Q : Type 0} (q : Algebra I T Q) (s : Side) {h h' : List (Cell I T)} {f f' : FreeList} {k : ℕ} {o : Root} (near : List ℕ) (m : Tree I T) (far : List (Node I T)) (e : ℕ) → 1 ≤ length near → 1 ≤ e → MadeTree h h' f f' 1 k o (deep_at q s (nodes h k near) m far) → MadeTree h h' f f' e k o (trim q s (nodes h k near) m far (pop q s m))
+pub trimmed_near : {I T : Type 0} {Q : Type 0} (q : Algebra I T Q) (s : Side) {h h' : List (Cell I T)} {k : ℕ} {o : Root} (near : List ℕ) (m : Tree I T) (far : List (Node I T)) (e : ℕ) → 1 ≤ length near → 1 ≤ e → MadeTree h h' 1 k o (deep_at q s (nodes h k near) m far) → MadeTree h h' e k o (trim q s (nodes h k near) m far (pop q s m))
 trimmed_near q s {h} {h'} {f} {f'} {k} near m far e l z u =
     let some : 1 ≤ length (nodes h k near) = simp length-map l in
     made_as e _ u (trim_some q s (nodes h k near) m far (pop q s m) some) z

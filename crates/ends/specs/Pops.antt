@@ -3,10 +3,9 @@ use Rattle.std.specs.Prelude.{◌≡◌, ℕ, ◌+◌, List, Some, None, Option}
 use Rattle.model.specs.Tree.{count_node, count}
 use Rattle.model.specs.Ends.{Popped as Taken, empty, got}
 use Rattle.model.specs.Forms.{FormedNode, Formed}
-use Rattle.cells.specs.Cells.{node, tree}
+use Rattle.cells.specs.Cells.{node, tree, rooted}
 use Rattle.cells.specs.Chain.{Grown}
 use Rattle.cells.specs.declared.cell.Cell.{Cell}
-use Rattle.cells.specs.declared.cell.FreeList.{FreeList}
 use Rattle.ends.specs.declared.pop.Popped.{Popped}
 
 abbrev pub popped_levels : Option Popped → ℕ
@@ -20,12 +19,12 @@ count_popped (got x rest) = count_node x + count rest
 module _ {I T : Type 0} where
   abbrev pub popped_of : List (Cell I T) → ℕ → Option Popped → Taken I T
   popped_of h k None = empty
-  popped_of h k (Some x) = got (node h k x.finger) (tree h x.rest.levels k x.rest.at)
+  popped_of h k (Some x) = got (node h k x.finger) (rooted h k x.rest)
 
   abbrev pub PoppedWell : List (Cell I T) → ℕ → Option Popped → Type 0
   PoppedWell h k None = Unit {0}
-  PoppedWell h k (Some x) = FormedNode k (node h k x.finger) × Formed k (tree h x.rest.levels k x.rest.at)
+  PoppedWell h k (Some x) = FormedNode k (node h k x.finger) × Formed k (rooted h k x.rest)
 
-  pub record MadePop (h h' : List (Cell I T)) (free free' : FreeList) (cost k : ℕ) (r : Option Popped) (p : Taken I T) : Type 0 where
-    pub grown : Grown h h' free free' cost
+  pub record MadePop (h h' : List (Cell I T)) (cost k : ℕ) (r : Option Popped) (p : Taken I T) : Type 0 where
+    pub grown : Grown h h' cost
     pub reads : popped_of h' k r ≡ p

@@ -6,18 +6,20 @@ ghost use Rattle.model.specs.Ends.{tree_of};
 ghost use Rattle.model.specs.Ends.{trim as trimmed};
 ghost use Rattle.model.specs.Ends.{pop as popped};
 ghost use Rattle.model.specs.Forms.{FormedNode, Each, Formed};
-ghost use Rattle.cells.specs.Cells.{end, node, nodes, tree};
-ghost use Rattle.cells.specs.Chain.{Sound};
+ghost use Rattle.cells.specs.Cells.{end, node, nodes, rooted};
+ghost use Rattle.cells.specs.Chain.{free_cells};
 ghost use Rattle.cells.specs.Fingers.{listed};
 ghost use Rattle.cells.specs.Made.{MadeTree};
 ghost use Rattle.ends.specs.Pops.{popped_of, PoppedWell, popped_levels, count_popped, MadePop};
 ghost use Rattle.cells.specs.Fingers.{listed_some};
 
-use cells::build::{deep_at, make_single};
-use cells::cell::{Cell, FreeList, Root, Side};
+use cells::build::{make_deep, make_single};
+use cells::arena::Arena;
+use cells::cell::{Root};
+use cells::side::Side;
 use cells::digits;
 use cells::fingers::Digit;
-use cells::read::{fingers_of, opposite, view};
+
 use cells::view::View;
 use kinds::Kind;
 
@@ -30,92 +32,84 @@ pub struct Popped {
 
 // Fingers listed from the side, as a tree.
 pub fn tree_from<K: Kind>(
-    cells: &mut [Cell<K::Item, K::Total>],
-    free: &mut FreeList,
+    arena: &mut Arena<'_, K::Item, K::Total>,
     level: u32,
     side: Side,
     digit: Digit,
 ) -> Root
-    requires room { 0 < free.old.count }
-    requires sound { Sound cells.old free.old }
+    requires room { 0 < free_cells arena.old }
     requires shallow { level < 64 }
-    requires formed { Each level (nodes cells.old level (listed digit)) }
-    requires fits { count_run (nodes cells.old level (listed digit)) < 2 ^ 32 }
-    ensures { MadeTree cells.old cells.new free.old free.new 1 level result (tree_of K.Kind.kind (end side) (nodes cells.old level (listed digit))) }
+    requires formed { Each level (nodes arena.old level (listed digit)) }
+    requires fits { count_run (nodes arena.old level (listed digit)) < 2 ^ 32 }
+    ensures { MadeTree arena.old arena.new 1 level result (tree_of K.Kind.kind (end side) (nodes arena.old level (listed digit))) }
 {
     let last = digits::finger(digit, digit.count - 1);
     if digit.count == 1 {
-        return make_single::<K>(cells, free, level, last);
+        return make_single::<K>(arena, level, last);
     }
     let near = digits::init(digit);
-    let far = digits::one(last);
-    deep_at::<K>(
-        cells,
-        free,
+    let far = Digit::of([last]);
+    make_deep::<K>(arena,
         level,
         side,
         near,
-        Root { levels: 0, at: 0 },
+        EMPTY,
         far,
     )
 }
 
 // A level whose fingers at the side are gone, where `below` came of a pop of its middle.
 pub fn refill<K: Kind>(
-    cells: &mut [Cell<K::Item, K::Total>],
-    free: &mut FreeList,
+    arena: &mut Arena<'_, K::Item, K::Total>,
     level: u32,
     side: Side,
     below: Option<Popped>,
     far: Digit,
 ) -> Root
-    requires room { 0 < free.old.count }
-    requires sound { Sound cells.old free.old }
+    requires room { 0 < free_cells arena.old }
     requires shallow { level + popped_levels below < 64 }
-    requires below { PoppedWell cells.old (suc level) below }
-    requires far { Each level (nodes cells.old level (listed far)) }
-    requires fits { count_popped (popped_of cells.old (suc level) below) + count_run (nodes cells.old level (listed far)) < 2 ^ 32 }
-    ensures { MadeTree cells.old cells.new free.old free.new 1 level result (trimmed K.Kind.kind (end side) [] nothing_left (nodes cells.old level (listed far)) (popped_of cells.old (suc level) below)) }
+    requires below { PoppedWell arena.old (suc level) below }
+    requires far { Each level (nodes arena.old level (listed far)) }
+    requires fits { count_popped (popped_of arena.old (suc level) below) + count_run (nodes arena.old level (listed far)) < 2 ^ 32 }
+    ensures { MadeTree arena.old arena.new 1 level result (trimmed K.Kind.kind (end side) [] nothing_left (nodes arena.old level (listed far)) (popped_of arena.old (suc level) below)) }
 {
     match below {
-        None => tree_from::<K>(cells, free, level, opposite(side), far),
+        None => tree_from::<K>(arena, level, side.opposite(), far),
         Some(inner) => {
-            let near = fingers_of::<K>(cells, level, side, inner.finger);
-            deep_at::<K>(cells, free, level, side, near, inner.rest, far)
+            let near = arena.parts(level, side, inner.finger);
+            make_deep::<K>(arena, level, side, near, inner.rest, far)
         }
     }
 }
 
 pub fn pop<K: Kind>(
-    cells: &mut [Cell<K::Item, K::Total>],
-    free: &mut FreeList,
+    arena: &mut Arena<'_, K::Item, K::Total>,
     level: u32,
     side: Side,
     root: Root,
 ) -> Option<Popped>
-    requires room { root.levels ≤ free.old.count }
-    requires sound { Sound cells.old free.old }
+    requires room { root.levels ≤ free_cells arena.old }
     requires shallow { level + root.levels < 64 }
-    requires formed { Formed level (tree cells.old root.levels level root.at) }
-    requires fits { count (tree cells.old root.levels level root.at) < 2 ^ 32 }
-    ensures { MadePop cells.old cells.new free.old free.new root.levels level result (popped K.Kind.kind (end side) (tree cells.old root.levels level root.at)) }
+    requires formed { Formed level (rooted arena.old level root) }
+    requires fits { count (rooted arena.old level root) < 2 ^ 32 }
+    ensures { MadePop arena.old arena.new root.levels level result (popped K.Kind.kind (end side) (rooted arena.old level root)) }
 {
-    match view::<K>(cells, level, side, root) {
+    match arena.view(level, side, root) {
         View::Empty => None,
         View::Single { finger } => Some(Popped {
             finger,
-            rest: Root { levels: 0, at: 0 },
+            rest: EMPTY,
         }),
         View::Deep { near, middle, far } => {
             let finger = digits::finger(near, 0);
             match digits::rest(near) {
                 Some(others) => {
-                    let rest = deep_at::<K>(cells, free, level, side, others, middle, far);
+                    let rest = make_deep::<K>(arena, level, side, others, middle, far);
                     Some(Popped { finger, rest })
                 }
                 None => {
-                    let below = pop::<K>(cells, free, level + 1, side, middle);
-                    let rest = refill::<K>(cells, free, level, side, below, far);
+                    let below = pop::<K>(arena, level + 1, side, middle);
+                    let rest = refill::<K>(arena, level, side, below, far);
                     Some(Popped { finger, rest })
                 }
             }
@@ -125,28 +119,26 @@ pub fn pop<K: Kind>(
 
 // A level whose fingers at the side may be gone.
 pub fn trim<K: Kind>(
-    cells: &mut [Cell<K::Item, K::Total>],
-    free: &mut FreeList,
+    arena: &mut Arena<'_, K::Item, K::Total>,
     level: u32,
     side: Side,
     near: Option<Digit>,
     middle: Root,
     far: Digit,
 ) -> Root
-    requires room { middle.levels < free.old.count }
-    requires sound { Sound cells.old free.old }
+    requires room { middle.levels < free_cells arena.old }
     requires shallow { level + 1 + middle.levels < 64 }
-    requires near { Each level (nodes cells.old level (listed_some near)) }
-    requires middle { Formed (suc level) (tree cells.old middle.levels (suc level) middle.at) }
-    requires far { Each level (nodes cells.old level (listed far)) }
-    requires fits { count_run (nodes cells.old level (listed_some near)) + (count (tree cells.old middle.levels (suc level) middle.at) + count_run (nodes cells.old level (listed far))) < 2 ^ 32 }
-    ensures { MadeTree cells.old cells.new free.old free.new (middle.levels + 1) level result (trimmed K.Kind.kind (end side) (nodes cells.old level (listed_some near)) (tree cells.old middle.levels (suc level) middle.at) (nodes cells.old level (listed far)) (popped K.Kind.kind (end side) (tree cells.old middle.levels (suc level) middle.at))) }
+    requires near { Each level (nodes arena.old level (listed_some near)) }
+    requires middle { Formed (suc level) (rooted arena.old (suc level) middle) }
+    requires far { Each level (nodes arena.old level (listed far)) }
+    requires fits { count_run (nodes arena.old level (listed_some near)) + (count (rooted arena.old (suc level) middle) + count_run (nodes arena.old level (listed far))) < 2 ^ 32 }
+    ensures { MadeTree arena.old arena.new (middle.levels + 1) level result (trimmed K.Kind.kind (end side) (nodes arena.old level (listed_some near)) (rooted arena.old (suc level) middle) (nodes arena.old level (listed far)) (popped K.Kind.kind (end side) (rooted arena.old (suc level) middle))) }
 {
     match near {
-        Some(fingers) => deep_at::<K>(cells, free, level, side, fingers, middle, far),
+        Some(fingers) => make_deep::<K>(arena, level, side, fingers, middle, far),
         None => {
-            let below = pop::<K>(cells, free, level + 1, side, middle);
-            refill::<K>(cells, free, level, side, below, far)
+            let below = pop::<K>(arena, level + 1, side, middle);
+            refill::<K>(arena, level, side, below, far)
         }
     }
 }

@@ -10,7 +10,6 @@ use Rattle.model.specs.Forms.{FormedNode, Each}
 use Rattle.cells.specs.Cells.{node, nodes}
 use Rattle.cells.specs.Made.{MadeNode}
 use Rattle.cells.specs.declared.cell.Cell.{Cell}
-use Rattle.cells.specs.declared.cell.FreeList.{FreeList}
 use Rattle.cells.proofs.Frames.{keep_node, keep_nodes, grown_more}
 use Rattle.cells.specs.Made.{MadeRun}
 
@@ -37,7 +36,7 @@ module _ {I T Q : Type 0} (q : Algebra I T Q) (h : List (Cell I T)) (k : ℕ) (p
   two_of : ps ≡ a ∷ b ∷ ps₂
   two_of = e₁ ∙ ap (λ r. a ∷ r) e₂
 
-  pub made_pair : {h' : List (Cell I T)} {f f' : FreeList} {p : ℕ} (ls : List ℕ) → MadeNode h h' f f' 1 (suc k) p (make2 q (node h k a) (node h k b)) → ls ≡ p ∷ [] → length ps ≡ 2 → MadeRun h h' f f' (length ls) (suc k) ls (group q (nodes h k ps))
+  pub made_pair : {h' : List (Cell I T)} {p : ℕ} (ls : List ℕ) → MadeNode h h' 1 (suc k) p (make2 q (node h k a) (node h k b)) → ls ≡ p ∷ [] → length ps ≡ 2 → MadeRun h h' (length ls) (suc k) ls (group q (nodes h k ps))
   made_pair ls u l n =
       let z : length ps₂ ≡ 0 = omega (arith, ap length two_of) in
       rw l (record { grown = u.grown; reads = ap (λ x. x ∷ []) u.reads ∙ sym (ap (λ ps. group q (nodes h k ps)) two_of ∙ group_two q h k a b ps₂ z) })
@@ -56,13 +55,13 @@ module _ {I T Q : Type 0} (q : Algebra I T Q) (h : List (Cell I T)) (k : ℕ) (p
     pub row_lengths : length ps ≡ 3 + length ps₃
     row_lengths = omega (arith, ap length three_of)
 
-    pub made_triple : {h' : List (Cell I T)} {f f' : FreeList} {p : ℕ} (ls : List ℕ) → MadeNode h h' f f' 1 (suc k) p (make3 q (node h k a) (node h k b) (node h k c)) → ls ≡ p ∷ [] → length ps ≡ 3 → MadeRun h h' f f' (length ls) (suc k) ls (group q (nodes h k ps))
+    pub made_triple : {h' : List (Cell I T)} {p : ℕ} (ls : List ℕ) → MadeNode h h' 1 (suc k) p (make3 q (node h k a) (node h k b) (node h k c)) → ls ≡ p ∷ [] → length ps ≡ 3 → MadeRun h h' (length ls) (suc k) ls (group q (nodes h k ps))
     made_triple ls u l n =
         let z : length ps₃ ≡ 0 = omega (arith, ap length three_of) in
         rw l (record { grown = u.grown; reads = ap (λ x. x ∷ []) u.reads ∙ sym (ap (λ ps. group q (nodes h k ps)) three_of ∙ group_three q h k a b c ps₃ z) })
 
     -- the first three are one node, and the rest is grouped
-    module _ {h₁ : List (Cell I T)} {f f₁ : FreeList} {p : ℕ} (u : MadeNode h h₁ f f₁ 1 (suc k) p (make3 q (node h k a) (node h k b) (node h k c))) where
+    module _ {h₁ : List (Cell I T)} {p : ℕ} (u : MadeNode h h₁ 1 (suc k) p (make3 q (node h k a) (node h k b) (node h k c))) where
       rest_kept : nodes h₁ k ps₃ ≡ nodes h k ps₃
       rest_kept = keep_nodes u.grown.extends k ps₃ parts.1.1.1
 
@@ -72,13 +71,13 @@ module _ {I T Q : Type 0} (q : Algebra I T Q) (h : List (Cell I T)) (k : ℕ) (p
       pub rest_count : count_run (nodes h₁ k ps₃) ≤ count_run (nodes h k ps)
       rest_count = omega (arith, ap count_run rest_kept, counts)
 
-      module _ {h₂ : List (Cell I T)} {f₂ : FreeList} (os : List ℕ) (v : MadeRun h₁ h₂ f₁ f₂ (length os) (suc k) os (group q (nodes h₁ k ps₃))) where
+      module _ {h₂ : List (Cell I T)} (os : List ℕ) (v : MadeRun h₁ h₂ (length os) (suc k) os (group q (nodes h₁ k ps₃))) where
         pub others_few : 3 * length os ≤ length ps₃ + 2
         others_few =
             let l = sym (length-map os (node h₂ (suc k))) ∙ ap length v.reads in
             omega (arith, l, group_short q (nodes h₁ k ps₃), length-map ps₃ (node h₁ k))
 
-        pub made_more : (ls : List ℕ) → ls ≡ p ∷ os → 2 ≤ length ps₃ → MadeRun h h₂ f f₂ (length ls) (suc k) ls (group q (nodes h k ps))
+        pub made_more : (ls : List ℕ) → ls ≡ p ∷ os → 2 ≤ length ps₃ → MadeRun h h₂ (length ls) (suc k) ls (group q (nodes h k ps))
         made_more ls l n =
             let first = keep_node v.grown.extends (suc k) p (subst (FormedNode (suc k)) (sym u.reads) (refl, (parts.0, (parts.1.0, parts.1.1.0)))) ∙ u.reads in
             rw l (record {
@@ -87,7 +86,7 @@ module _ {I T Q : Type 0} (q : Algebra I T Q) (h : List (Cell I T)) (k : ℕ) (p
             })
 
     -- and then d: four make two pairs
-    module _ (d : ℕ) (ps₄ : List ℕ) (e₄ : ps₃ ≡ d ∷ ps₄) {h₁ : List (Cell I T)} {f f₁ : FreeList} {p : ℕ} (u : MadeNode h h₁ f f₁ 1 (suc k) p (make2 q (node h k a) (node h k b))) where
+    module _ (d : ℕ) (ps₄ : List ℕ) (e₄ : ps₃ ≡ d ∷ ps₄) {h₁ : List (Cell I T)} {p : ℕ} (u : MadeNode h h₁ 1 (suc k) p (make2 q (node h k a) (node h k b))) where
       four_of : ps ≡ a ∷ b ∷ c ∷ d ∷ ps₄
       four_of = three_of ∙ ap (λ r. a ∷ b ∷ c ∷ r) e₄
 
@@ -109,7 +108,7 @@ module _ {I T Q : Type 0} (q : Algebra I T Q) (h : List (Cell I T)) (k : ℕ) (p
       pub pair_count : count_node (node h₁ k c) + count_node (node h₁ k d) ≤ count_run (nodes h k ps)
       pair_count = omega (arith, ap count_node third_kept, ap count_node fourth_kept, ap (λ ps. count_run (nodes h k ps)) four_of)
 
-      pub made_pairs : {h₂ : List (Cell I T)} {f₂ : FreeList} {r : ℕ} (ls : List ℕ) → MadeNode h₁ h₂ f₁ f₂ 1 (suc k) r (make2 q (node h₁ k c) (node h₁ k d)) → ls ≡ p ∷ r ∷ [] → length ps ≡ 4 → MadeRun h h₂ f f₂ (length ls) (suc k) ls (group q (nodes h k ps))
+      pub made_pairs : {h₂ : List (Cell I T)} {r : ℕ} (ls : List ℕ) → MadeNode h₁ h₂ 1 (suc k) r (make2 q (node h₁ k c) (node h₁ k d)) → ls ≡ p ∷ r ∷ [] → length ps ≡ 4 → MadeRun h h₂ (length ls) (suc k) ls (group q (nodes h k ps))
       made_pairs ls v l n =
           let z : length ps₄ ≡ 0 = omega (arith, ap length four_of) in
           let first = keep_node v.grown.extends (suc k) p (subst (FormedNode (suc k)) (sym u.reads) (refl, (four_parts.0, four_parts.1.0))) ∙ u.reads in

@@ -8,13 +8,12 @@ use Rattle.model.specs.Append.{onto, pushed, group, append}
 use Rattle.model.specs.Forms.{Each, Formed}
 use Rattle.model.proofs.Forms.{count_is, count_run_is}
 use Rattle.model.proofs.Appending.{each_append, each_onto, group_formed, group_items, append_formed, append_items}
-use Rattle.cells.specs.Cells.{node, nodes, tree}
+use Rattle.cells.specs.Cells.{node, nodes, tree, rooted}
 use Rattle.cells.specs.Chain.{Extends}
 use Rattle.cells.specs.Fingers.{listed}
 use Rattle.cells.specs.Made.{MadeTree, SeenDeep}
 use Rattle.cells.specs.declared.cell.Cell.{Cell}
 use Rattle.cells.specs.declared.cell.Root.{Root}
-use Rattle.cells.specs.declared.cell.FreeList.{FreeList}
 use Rattle.cells.specs.declared.fingers.Digit.{Digit as Filled}
 use Rattle.cells.proofs.Frames.{keep_nodes, keep_tree, extends_more, grown_more}
 use Rattle.cells.proofs.Fours.{listed_length}
@@ -27,7 +26,7 @@ module _ {I T : Type 0} where
   pub base_room : (n : ℕ) (ps : List ℕ) (t u : Tree I T) → t ≡ u → length ps ≤ 5 → 10 * levels t ≤ n → 2 * (length ps * levels u) ≤ n
   base_room n ps t u e few l = let m = mul-le-mul_right (levels u) few in omega (arith, m, ap levels e)
 
-  pub base_made : {h h' : List (Cell I T)} {f f' : FreeList} {k : ℕ} {r : Root} (ps : List ℕ) (t u : Tree I T) → t ≡ u → length ps ≤ 5 → MadeTree h h' f f' (2 * (length ps * r.levels)) k r u → MadeTree h h' f f' (10 * r.levels) k r t
+  pub base_made : {h h' : List (Cell I T)} {k : ℕ} {r : Root} (ps : List ℕ) (t u : Tree I T) → t ≡ u → length ps ≤ 5 → MadeTree h h' (2 * (length ps * r.levels)) k r u → MadeTree h h' (10 * r.levels) k r t
   base_made {h} {h'} {f} {f'} {k} {r} ps t u e few v = let m = mul-le-mul_right r.levels few in made_as (10 * r.levels) t v (sym e) (omega (arith, m))
 
   count_onto : (xs ys : List (Node I T)) → count_run (onto xs ys) ≡ count_run xs + count_run ys
@@ -98,18 +97,18 @@ module _ {I T Q : Type 0} (q : Algebra I T Q) (h : List (Cell I T)) (k : ℕ) (l
       onto_length [] ys = omega arith
       onto_length (x ∷ xs) ys = omega (arith, onto_length xs (x ∷ ys))
 
-  joined_is : append q (tree h left.levels k left.at) (nodes h k ls) (tree h right.levels k right.at) ≡ make q (nodes h k (listed f₁)) (append q (tree h m.levels (suc k) m.at) (group q (nodes h k ps)) (tree h r.levels (suc k) r.at)) (nodes h k (listed b₂))
+  joined_is : append q (rooted h k left) (nodes h k ls) (rooted h k right) ≡ make q (nodes h k (listed f₁)) (append q (rooted h (suc k) m) (group q (nodes h k ps)) (rooted h (suc k) r)) (nodes h k (listed b₂))
   joined_is = rw (a.is, b.is, row_nodes)
 
-  pub joined_depth : levels (append q (tree h left.levels k left.at) (nodes h k ls) (tree h right.levels k right.at)) ≡ suc (levels (append q (tree h m.levels (suc k) m.at) (group q (nodes h k ps)) (tree h r.levels (suc k) r.at)))
+  pub joined_depth : levels (append q (rooted h k left) (nodes h k ls) (rooted h k right)) ≡ suc (levels (append q (rooted h (suc k) m) (group q (nodes h k ps)) (rooted h (suc k) r)))
   joined_depth = ap levels joined_is
 
-  module _ {h₁ : List (Cell I T)} {f f' : FreeList} (gs : Filled) (u : MadeRun h h₁ f f' (length (listed gs)) (suc k) (listed gs) (group q (nodes h k ps))) {k' : ℕ} (i : suc k ≡ k') where
-    left_kept : tree h₁ m.levels k' m.at ≡ tree h m.levels (suc k) m.at
-    left_kept = subst (λ j. tree h₁ m.levels j m.at ≡ tree h m.levels (suc k) m.at) i (keep_tree u.grown.extends m.levels (suc k) m.at a.middle_formed)
+  module _ {h₁ : List (Cell I T)} (gs : Filled) (u : MadeRun h h₁ (length (listed gs)) (suc k) (listed gs) (group q (nodes h k ps))) {k' : ℕ} (i : suc k ≡ k') where
+    left_kept : tree h₁ m.levels k' m.at ≡ rooted h (suc k) m
+    left_kept = subst (λ j. rooted h₁ j m ≡ rooted h (suc k) m) i (keep_tree u.grown.extends m.levels (suc k) m.at a.middle_formed)
 
-    right_kept : tree h₁ r.levels k' r.at ≡ tree h r.levels (suc k) r.at
-    right_kept = subst (λ j. tree h₁ r.levels j r.at ≡ tree h r.levels (suc k) r.at) i (keep_tree u.grown.extends r.levels (suc k) r.at b.middle_formed)
+    right_kept : tree h₁ r.levels k' r.at ≡ rooted h (suc k) r
+    right_kept = subst (λ j. rooted h₁ j r ≡ rooted h (suc k) r) i (keep_tree u.grown.extends r.levels (suc k) r.at b.middle_formed)
 
     groups_read : nodes h₁ k' (listed gs) ≡ group q (nodes h k ps)
     groups_read = subst (λ j. nodes h₁ j (listed gs) ≡ group q (nodes h k ps)) i u.reads
@@ -123,29 +122,29 @@ module _ {I T Q : Type 0} (q : Algebra I T Q) (h : List (Cell I T)) (k : ℕ) (l
     groups_count : count_run (group q (nodes h k ps)) ≡ count_run (nodes h k ps)
     groups_count = let l : 2 ≤ length (nodes h k ps) = simp length-map row_long in count_group q k (nodes h k ps) row_formed l
 
-    pub inner_is : append q (tree h₁ m.levels k' m.at) (nodes h₁ k' (listed gs)) (tree h₁ r.levels k' r.at) ≡ append q (tree h m.levels (suc k) m.at) (group q (nodes h k ps)) (tree h r.levels (suc k) r.at)
+    pub inner_is : append q (tree h₁ m.levels k' m.at) (nodes h₁ k' (listed gs)) (tree h₁ r.levels k' r.at) ≡ append q (rooted h (suc k) m) (group q (nodes h k ps)) (rooted h (suc k) r)
     inner_is = rw (left_kept, right_kept, groups_read)
 
     pub left_ready : Formed k' (tree h₁ m.levels k' m.at)
-    left_ready = rw left_kept (subst (λ j. Formed j (tree h m.levels (suc k) m.at)) i a.middle_formed)
+    left_ready = rw left_kept (subst (λ j. Formed j (rooted h (suc k) m)) i a.middle_formed)
 
     pub right_ready : Formed k' (tree h₁ r.levels k' r.at)
-    right_ready = rw right_kept (subst (λ j. Formed j (tree h r.levels (suc k) r.at)) i b.middle_formed)
+    right_ready = rw right_kept (subst (λ j. Formed j (rooted h (suc k) r)) i b.middle_formed)
 
     pub groups_ready : Each k' (nodes h₁ k' (listed gs))
     groups_ready = rw groups_read (subst (λ j. Each j (group q (nodes h k ps))) i groups_formed)
 
-    pub inner_count : count (tree h₁ m.levels k' m.at) + (count_run (nodes h₁ k' (listed gs)) + count (tree h₁ r.levels k' r.at)) ≤ count (tree h left.levels k left.at) + (count_run (nodes h k ls) + count (tree h right.levels k right.at))
+    pub inner_count : count (tree h₁ m.levels k' m.at) + (count_run (nodes h₁ k' (listed gs)) + count (tree h₁ r.levels k' r.at)) ≤ count (rooted h k left) + (count_run (nodes h k ls) + count (rooted h k right))
     inner_count = omega (arith, ap count left_kept, ap count right_kept, ap count_run groups_read, groups_count, row_counts, a.counts, b.counts)
 
-    module _ {h₂ : List (Cell I T)} {f'' : FreeList} {o : Root} (below : MadeTree h₁ h₂ f' f'' (10 * o.levels) k' o (append q (tree h₁ m.levels k' m.at) (nodes h₁ k' (listed gs)) (tree h₁ r.levels k' r.at))) where
-      below_reads : tree h₂ o.levels (suc k) o.at ≡ append q (tree h m.levels (suc k) m.at) (group q (nodes h k ps)) (tree h r.levels (suc k) r.at)
-      below_reads = subst (λ j. tree h₂ o.levels j o.at ≡ append q (tree h m.levels (suc k) m.at) (group q (nodes h k ps)) (tree h r.levels (suc k) r.at)) (sym i) (below.reads ∙ inner_is)
+    module _ {h₂ : List (Cell I T)} {o : Root} (below : MadeTree h₁ h₂ (10 * o.levels) k' o (append q (tree h₁ m.levels k' m.at) (nodes h₁ k' (listed gs)) (tree h₁ r.levels k' r.at))) where
+      below_reads : rooted h₂ (suc k) o ≡ append q (rooted h (suc k) m) (group q (nodes h k ps)) (rooted h (suc k) r)
+      below_reads = subst (λ j. rooted h₂ j o ≡ append q (rooted h (suc k) m) (group q (nodes h k ps)) (rooted h (suc k) r)) (sym i) (below.reads ∙ inner_is)
 
-      pub below_ready : Formed (suc k) (tree h₂ o.levels (suc k) o.at)
-      below_ready = subst (Formed (suc k)) (sym below_reads) (append_formed q (suc k) (tree h m.levels (suc k) m.at) (group q (nodes h k ps)) (tree h r.levels (suc k) r.at) a.middle_formed groups_formed groups_few b.middle_formed)
+      pub below_ready : Formed (suc k) (rooted h₂ (suc k) o)
+      below_ready = subst (Formed (suc k)) (sym below_reads) (append_formed q (suc k) (rooted h (suc k) m) (group q (nodes h k ps)) (rooted h (suc k) r) a.middle_formed groups_formed groups_few b.middle_formed)
 
-      pub below_depth : o.levels ≡ levels (append q (tree h m.levels (suc k) m.at) (group q (nodes h k ps)) (tree h r.levels (suc k) r.at))
+      pub below_depth : o.levels ≡ levels (append q (rooted h (suc k) m) (group q (nodes h k ps)) (rooted h (suc k) r))
       below_depth = sym (levels_read h₂ o.levels (suc k) o.at below_ready) ∙ ap levels below_reads
 
       after : Extends h h₂
@@ -163,16 +162,16 @@ module _ {I T Q : Type 0} (q : Algebra I T Q) (h : List (Cell I T)) (k : ℕ) (l
       pub back_ready : Each k (nodes h₂ k (listed b₂))
       back_ready = subst (Each k) (sym back_kept) b.far_formed
 
-      pub joined_count : count_run (nodes h₂ k (listed f₁)) + (count (tree h₂ o.levels (suc k) o.at) + count_run (nodes h₂ k (listed b₂))) ≡ count (tree h left.levels k left.at) + (count_run (nodes h k ls) + count (tree h right.levels k right.at))
+      pub joined_count : count_run (nodes h₂ k (listed f₁)) + (count (rooted h₂ (suc k) o) + count_run (nodes h₂ k (listed b₂))) ≡ count (rooted h k left) + (count_run (nodes h k ls) + count (rooted h k right))
       joined_count =
-          let n = count_append q (suc k) (tree h m.levels (suc k) m.at) (group q (nodes h k ps)) (tree h r.levels (suc k) r.at) a.middle_formed groups_formed groups_few b.middle_formed in
+          let n = count_append q (suc k) (rooted h (suc k) m) (group q (nodes h k ps)) (rooted h (suc k) r) a.middle_formed groups_formed groups_few b.middle_formed in
           omega (arith, n, ap count below_reads, ap count_run front_kept, ap count_run back_kept, groups_count, row_counts, a.counts, b.counts)
 
-      pub appended : {h₃ : List (Cell I T)} {f''' : FreeList} {z : Root} → Formed k (tree h left.levels k left.at) → Formed k (tree h right.levels k right.at) → length ls ≤ 4 → MadeTree h₂ h₃ f'' f''' 1 k z (make q (nodes h₂ k (listed f₁)) (tree h₂ o.levels (suc k) o.at) (nodes h₂ k (listed b₂))) → MadeTree h h₃ f f''' (10 * z.levels) k z (append q (tree h left.levels k left.at) (nodes h k ls) (tree h right.levels k right.at))
+      pub appended : {h₃ : List (Cell I T)} {z : Root} → Formed k (rooted h k left) → Formed k (rooted h k right) → length ls ≤ 4 → MadeTree h₂ h₃ 1 k z (make q (nodes h₂ k (listed f₁)) (rooted h₂ (suc k) o) (nodes h₂ k (listed b₂))) → MadeTree h h₃ (10 * z.levels) k z (append q (rooted h k left) (nodes h k ls) (rooted h k right))
       appended {h₃} {f'''} {z} wl wr short w =
           let few : length (listed gs) ≤ 4 = omega (arith, listed_length gs, gs.filled.1) in
-          let same : make q (nodes h₂ k (listed f₁)) (tree h₂ o.levels (suc k) o.at) (nodes h₂ k (listed b₂)) ≡ append q (tree h left.levels k left.at) (nodes h k ls) (tree h right.levels k right.at) = rw (front_kept, back_kept, below_reads) (sym joined_is) in
-          let formed : Formed k (append q (tree h left.levels k left.at) (nodes h k ls) (tree h right.levels k right.at)) = append_formed q k (tree h left.levels k left.at) (nodes h k ls) (tree h right.levels k right.at) wl v (simp length-map short) wr in
+          let same : make q (nodes h₂ k (listed f₁)) (rooted h₂ (suc k) o) (nodes h₂ k (listed b₂)) ≡ append q (rooted h k left) (nodes h k ls) (rooted h k right) = rw (front_kept, back_kept, below_reads) (sym joined_is) in
+          let formed : Formed k (append q (rooted h k left) (nodes h k ls) (rooted h k right)) = append_formed q k (rooted h k left) (nodes h k ls) (rooted h k right) wl v (simp length-map short) wr in
           let depth = made_levels (made_as 1 _ w same (omega arith)) formed ∙ joined_depth in
           record {
             grown = grown_more (10 * z.levels) u.grown (grown_more (10 * o.levels + 1) below.grown w.grown (omega arith)) (omega (arith, depth, below_depth));

@@ -7,11 +7,10 @@ use Rattle.model.specs.Append.{pushed}
 use Rattle.model.specs.Forms.{FormedNode, Each, Formed}
 use Rattle.model.proofs.Pushing.{push_formed, push_levels}
 use Rattle.model.proofs.Appending.{pushed_formed}
-use Rattle.cells.specs.Cells.{node, nodes, tree}
+use Rattle.cells.specs.Cells.{node, nodes, tree, rooted}
 use Rattle.cells.specs.Made.{MadeTree}
 use Rattle.cells.specs.declared.cell.Cell.{Cell}
 use Rattle.cells.specs.declared.cell.Root.{Root}
-use Rattle.cells.specs.declared.cell.FreeList.{FreeList}
 use Rattle.cells.proofs.Frames.{keep_node, grown_more}
 use Rattle.ends.proofs.Counting.{push_count}
 use Rattle.ends.proofs.Pushing.{made_levels}
@@ -29,9 +28,9 @@ module _ {I T Q : Type 0} (q : Algebra I T Q) (s : Side) where
   pushed_deeper k (a ∷ ds) t u w = let m = pushed_deeper k ds t u.1 w in let l = push_deeper k a (pushed q s ds t) (pushed_formed q s k ds t u.1 w) in omega arith
 
 -- the fingers ps are x and then qs
-module _ {I T Q : Type 0} (q : Algebra I T Q) (s : Side) (h : List (Cell I T)) (k : ℕ) (root : Root) (w : Formed k (tree h root.levels k root.at)) (ps : List ℕ) (v : Each k (nodes h k ps)) (x : ℕ) (qs : List ℕ) (e : ps ≡ x ∷ qs) where
-  all_of : pushed q s (nodes h k ps) (tree h root.levels k root.at) ≡ push q s (node h k x) (pushed q s (nodes h k qs) (tree h root.levels k root.at))
-  all_of = ap (λ ps. pushed q s (nodes h k ps) (tree h root.levels k root.at)) e
+module _ {I T Q : Type 0} (q : Algebra I T Q) (s : Side) (h : List (Cell I T)) (k : ℕ) (root : Root) (w : Formed k (rooted h k root)) (ps : List ℕ) (v : Each k (nodes h k ps)) (x : ℕ) (qs : List ℕ) (e : ps ≡ x ∷ qs) where
+  all_of : pushed q s (nodes h k ps) (rooted h k root) ≡ push q s (node h k x) (pushed q s (nodes h k qs) (rooted h k root))
+  all_of = ap (λ ps. pushed q s (nodes h k ps) (rooted h k root)) e
 
   parts : Each k (nodes h k (x ∷ qs))
   parts = subst (λ ps. Each k (nodes h k ps)) e v
@@ -42,59 +41,59 @@ module _ {I T Q : Type 0} (q : Algebra I T Q) (s : Side) (h : List (Cell I T)) (
   pub others_count : count_run (nodes h k ps) ≡ count_node (node h k x) + count_run (nodes h k qs)
   others_count = ap (λ ps. count_run (nodes h k ps)) e
 
-  others_formed : Formed k (pushed q s (nodes h k qs) (tree h root.levels k root.at))
-  others_formed = pushed_formed q s k (nodes h k qs) (tree h root.levels k root.at) parts.1 w
+  others_formed : Formed k (pushed q s (nodes h k qs) (rooted h k root))
+  others_formed = pushed_formed q s k (nodes h k qs) (rooted h k root) parts.1 w
 
-  pub others_levels : levels (pushed q s (nodes h k qs) (tree h root.levels k root.at)) ≤ levels (pushed q s (nodes h k ps) (tree h root.levels k root.at))
-  others_levels = let l = push_deeper q s k (node h k x) (pushed q s (nodes h k qs) (tree h root.levels k root.at)) others_formed in rw all_of l
+  pub others_levels : levels (pushed q s (nodes h k qs) (rooted h k root)) ≤ levels (pushed q s (nodes h k ps) (rooted h k root))
+  others_levels = let l = push_deeper q s k (node h k x) (pushed q s (nodes h k qs) (rooted h k root)) others_formed in rw all_of l
 
   one_longer : length ps ≡ suc (length qs)
   one_longer = ap length e
 
   -- n turns of a and one of b, and n of the smaller a
-  pub others_room : (n : ℕ) → 2 * (length ps * levels (pushed q s (nodes h k ps) (tree h root.levels k root.at))) ≤ n → 2 * (length qs * levels (pushed q s (nodes h k qs) (tree h root.levels k root.at))) ≤ n
+  pub others_room : (n : ℕ) → 2 * (length ps * levels (pushed q s (nodes h k ps) (rooted h k root))) ≤ n → 2 * (length qs * levels (pushed q s (nodes h k qs) (rooted h k root))) ≤ n
   others_room n l =
-      let a = levels (pushed q s (nodes h k qs) (tree h root.levels k root.at)) in
-      let b = levels (pushed q s (nodes h k ps) (tree h root.levels k root.at)) in
+      let a = levels (pushed q s (nodes h k qs) (rooted h k root)) in
+      let b = levels (pushed q s (nodes h k ps) (rooted h k root)) in
       let less : a ≤ b = omega (arith, others_levels) in
       let m = mul-le-mul_left (length qs) less in
       let c = ap (λ i. i * b) one_longer ∙ suc-mul (length qs) b in
       omega (arith, m, c)
 
-  module _ {h₁ : List (Cell I T)} {f f₁ : FreeList} {r : Root} (u : MadeTree h h₁ f f₁ (2 * (length qs * r.levels)) k r (pushed q s (nodes h k qs) (tree h root.levels k root.at))) where
-    pub others_depth : r.levels ≡ levels (pushed q s (nodes h k qs) (tree h root.levels k root.at))
+  module _ {h₁ : List (Cell I T)} {r : Root} (u : MadeTree h h₁ (2 * (length qs * r.levels)) k r (pushed q s (nodes h k qs) (rooted h k root))) where
+    pub others_depth : r.levels ≡ levels (pushed q s (nodes h k qs) (rooted h k root))
     others_depth = made_levels u others_formed
 
     first_kept : node h₁ k x ≡ node h k x
     first_kept = keep_node u.grown.extends k x parts.0
 
-    next_is : push q s (node h₁ k x) (tree h₁ r.levels k r.at) ≡ pushed q s (nodes h k ps) (tree h root.levels k root.at)
+    next_is : push q s (node h₁ k x) (rooted h₁ k r) ≡ pushed q s (nodes h k ps) (rooted h k root)
     next_is = rw (first_kept, u.reads) (sym all_of)
 
-    pub next_levels : levels (push q s (node h₁ k x) (tree h₁ r.levels k r.at)) ≡ levels (pushed q s (nodes h k ps) (tree h root.levels k root.at))
+    pub next_levels : levels (push q s (node h₁ k x) (rooted h₁ k r)) ≡ levels (pushed q s (nodes h k ps) (rooted h k root))
     next_levels = ap levels next_is
 
-    pub next_room : 2 * (length ps * levels (pushed q s (nodes h k ps) (tree h root.levels k root.at))) ≤ f.count → 2 * levels (push q s (node h₁ k x) (tree h₁ r.levels k r.at)) ≤ f₁.count + 1
+    pub next_room : 2 * (length ps * levels (pushed q s (nodes h k ps) (rooted h k root))) ≤ f.count → 2 * levels (push q s (node h₁ k x) (rooted h₁ k r)) ≤ f₁.count + 1
     next_room l =
-        let b = levels (pushed q s (nodes h k ps) (tree h root.levels k root.at)) in
+        let b = levels (pushed q s (nodes h k ps) (rooted h k root)) in
         let less : r.levels ≤ b = omega (arith, others_levels, others_depth) in
         let m = mul-le-mul_left (length qs) less in
         let c = ap (λ i. i * b) one_longer ∙ suc-mul (length qs) b in
         omega (arith, m, c, u.grown.spent, next_levels)
 
-    pub next_formed : Formed k (tree h₁ r.levels k r.at)
+    pub next_formed : Formed k (rooted h₁ k r)
     next_formed = subst (Formed k) (sym u.reads) others_formed
 
     pub first_ready : FormedNode k (node h₁ k x)
     first_ready = subst (FormedNode k) (sym first_kept) parts.0
 
-    pub next_count : count_node (node h₁ k x) + count (tree h₁ r.levels k r.at) ≡ count_run (nodes h k ps) + count (tree h root.levels k root.at)
-    next_count = omega (arith, ap count_node first_kept, ap count u.reads, pushed_count q s k (nodes h k qs) (tree h root.levels k root.at) parts.1 w, others_count)
+    pub next_count : count_node (node h₁ k x) + count (rooted h₁ k r) ≡ count_run (nodes h k ps) + count (rooted h k root)
+    next_count = omega (arith, ap count_node first_kept, ap count u.reads, pushed_count q s k (nodes h k qs) (rooted h k root) parts.1 w, others_count)
 
-    pub pushed_all : {h₂ : List (Cell I T)} {f₂ : FreeList} {o : Root} → MadeTree h₁ h₂ f₁ f₂ (2 * o.levels - 1) k o (push q s (node h₁ k x) (tree h₁ r.levels k r.at)) → MadeTree h h₂ f f₂ (2 * (length ps * o.levels)) k o (pushed q s (nodes h k ps) (tree h root.levels k root.at))
+    pub pushed_all : {h₂ : List (Cell I T)} {o : Root} → MadeTree h₁ h₂ (2 * o.levels - 1) k o (push q s (node h₁ k x) (rooted h₁ k r)) → MadeTree h h₂ (2 * (length ps * o.levels)) k o (pushed q s (nodes h k ps) (rooted h k root))
     pushed_all {h₂} {f₂} {o} z =
-        let depth = made_levels z (push_formed q s k (node h₁ k x) (tree h₁ r.levels k r.at) first_ready next_formed) in
-        let deeper = push_deeper q s k (node h₁ k x) (tree h₁ r.levels k r.at) next_formed in
+        let depth = made_levels z (push_formed q s k (node h₁ k x) (rooted h₁ k r) first_ready next_formed) in
+        let deeper = push_deeper q s k (node h₁ k x) (rooted h₁ k r) next_formed in
         let same = ap levels u.reads in
         let less : r.levels ≤ o.levels = omega (arith, others_depth) in
         let m = mul-le-mul_left (length qs) less in

@@ -4,57 +4,53 @@ ghost use Rattle.model.specs.Tree.{count_run};
 ghost use Rattle.model.specs.Append.{group};
 ghost use Rattle.model.specs.Forms.{Each};
 ghost use Rattle.cells.specs.Cells.{nodes};
-ghost use Rattle.cells.specs.Chain.{Sound};
+ghost use Rattle.cells.specs.Chain.{free_cells};
 ghost use Rattle.cells.specs.Fingers.{listed};
 ghost use Rattle.joins.specs.Rows.{in_row};
 ghost use Rattle.cells.specs.Made.{MadeRun};
 
 use super::row::{Row, take_first, width};
 use cells::build::{make_three, make_two};
-use cells::cell::{Cell, FreeList};
+use cells::arena::Arena;
 use cells::digits;
 use cells::fingers::Digit;
 use kinds::Kind;
 
 // The fingers of a row, two or more, in threes and twos.
 pub fn group_row<K: Kind>(
-    cells: &mut [Cell<K::Item, K::Total>],
-    free: &mut FreeList,
+    arena: &mut Arena<'_, K::Item, K::Total>,
     level: u32,
     row: Row,
 ) -> Digit
-    requires room { length (in_row row) ≤ 3 * free.old.count }
-    requires sound { Sound cells.old free.old }
+    requires room { length (in_row row) ≤ 3 * free_cells arena.old }
     requires long { 2 ≤ length (in_row row) }
-    requires formed { Each level (nodes cells.old level (in_row row)) }
-    requires fits { count_run (nodes cells.old level (in_row row)) < 2 ^ 32 }
-    ensures { MadeRun cells.old cells.new free.old free.new (length (listed result)) (suc level) (listed result) (group K.Kind.kind (nodes cells.old level (in_row row))) }
+    requires formed { Each level (nodes arena.old level (in_row row)) }
+    requires fits { count_run (nodes arena.old level (in_row row)) < 2 ^ 32 }
+    ensures { MadeRun arena.old arena.new (length (listed result)) (suc level) (listed result) (group K.Kind.kind (nodes arena.old level (in_row row))) }
 {
     let wide = width(row);
     let first = take_first(row);
     let second = take_first(first.rest);
     if wide == 2 {
-        let pair = make_two::<K>(cells, free, level, first.finger, second.finger);
-        return digits::one(pair);
+        let pair = make_two::<K>(arena, level, first.finger, second.finger);
+        return Digit::of([pair]);
     }
     let third = take_first(second.rest);
     if wide == 4 {
         let fourth = take_first(third.rest);
-        let left = make_two::<K>(cells, free, level, first.finger, second.finger);
-        let right = make_two::<K>(cells, free, level, third.finger, fourth.finger);
-        return digits::two(left, right);
+        let left = make_two::<K>(arena, level, first.finger, second.finger);
+        let right = make_two::<K>(arena, level, third.finger, fourth.finger);
+        return Digit::of([left, right]);
     }
-    let three = make_three::<K>(
-        cells,
-        free,
+    let three = make_three::<K>(arena,
         level,
         first.finger,
         second.finger,
         third.finger,
     );
     if wide == 3 {
-        return digits::one(three);
+        return Digit::of([three]);
     }
-    let others = group_row::<K>(cells, free, level, third.rest);
-    digits::prepend(three, others)
+    let others = group_row::<K>(arena, level, third.rest);
+    others.prepend(three)
 }

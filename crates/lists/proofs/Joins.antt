@@ -8,7 +8,6 @@ use Rattle.model.specs.Levels.{most_levels}
 use Rattle.model.proofs.Appending.{append_formed, append_items, append_measures}
 use Rattle.cells.specs.Made.{MadeTree}
 use Rattle.cells.specs.declared.cell.Cell.{Cell}
-use Rattle.cells.specs.declared.cell.FreeList.{FreeList}
 use Rattle.cells.specs.declared.cell.Root.{Root}
 use Rattle.lists.specs.Lists.{tree_at, list_at, Whole, Right, Made}
 use Rattle.lists.proofs.Roots.{formed_at, low_levels, shallow, made_from, right_from}
@@ -26,8 +25,8 @@ module _ {I T Q : Type 0} (k : Algebra I T Q) (h : List (Cell I T)) (left right 
   pub join_shallow : length (list_at h left) + length (list_at h right) < 2 ^ 32 → levels (append k (tree_at h left) [] (tree_at h right)) < 64
   join_shallow fits = omega (arith, join_levels, shallow (length (list_at h left) + length (list_at h right)) fits)
 
-  module _ {h' : List (Cell I T)} {f f' : FreeList} {r : Root} (made : MadeTree h h' f f' (10 * r.levels) 0 r (append k (tree_at h left) [] (tree_at h right))) where
-    pub joined_made : Made h h' f f' (10 * r.levels) r (list_at h left ++ list_at h right)
+  module _ {h' : List (Cell I T)} {r : Root} (made : MadeTree h h' (10 * r.levels) 0 r (append k (tree_at h left) [] (tree_at h right))) where
+    pub joined_made : Made h h' (10 * r.levels) r (list_at h left ++ list_at h right)
     joined_made = made_from (10 * r.levels) (list_at h left ++ list_at h right) made formed list (omega arith)
 
     pub joined_right : Laws k → Right k h left → Right k h right → Right k h' r

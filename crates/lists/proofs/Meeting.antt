@@ -8,7 +8,6 @@ use Rattle.model.specs.Seek.{missed, found, seek}
 use Rattle.model.specs.Statements.{Sound}
 use Rattle.cells.specs.Chain.{Sound as FreeSound}
 use Rattle.cells.specs.declared.cell.Cell.{Cell}
-use Rattle.cells.specs.declared.cell.FreeList.{FreeList}
 use Rattle.cells.specs.declared.cell.Root.{Root}
 use Rattle.cells.proofs.Opened.{tree_none}
 use Rattle.ends.proofs.Popping.{grown_none}
@@ -22,7 +21,7 @@ module _ {I T Q : Type 0} (k : Algebra I T Q) (h : List (Cell I T)) where
   none_at : tree_at h nothing_left ≡ none
   none_at = tree_none h 0 0 0 refl
 
-  pub missed_made : (f : FreeList) (root : Root) (q : Q) (cost : ℕ) → FreeSound h f → Whole h root → (Right k h root → missed ≡ seek k q (list_at h root)) → PartedBy k h h f f cost q root (record { left = root; right = nothing_left })
+  pub missed_made : (root : Root) (q : Q) (cost : ℕ) → FreeSound h f → Whole h root → (Right k h root → missed ≡ seek k q (list_at h root)) → PartedBy k h h f f cost q root (record { left = root; right = nothing_left })
   missed_made f root q cost sound whole unmet =
       let n = length (list_at h root) in
       record {

@@ -15,7 +15,6 @@ use Rattle.model.proofs.Splitting.{split_keeps, split_measures}
 use Rattle.cells.specs.Cells.{node}
 use Rattle.cells.specs.Made.{MadeTree}
 use Rattle.cells.specs.declared.cell.Cell.{Cell}
-use Rattle.cells.specs.declared.cell.FreeList.{FreeList}
 use Rattle.cells.specs.declared.cell.Root.{Root}
 use Rattle.cells.proofs.Frames.{keep_tree, extends_more, grown_more}
 use Rattle.cells.proofs.Opened.{levels_read}
@@ -39,7 +38,7 @@ module _ {I T Q : Type 0} (k : Algebra I T Q) (h : List (Cell I T)) (root : Root
   pub root_shallow : 2 * root.levels < 64
   root_shallow = omega (arith, root_low, shallow (length (list_at h root)) fits)
 
-  module _ (j : ℕ) (within : j < length (list_at h root)) {h₁ : List (Cell I T)} {f f₁ : FreeList} (o : PartedCells) (u : MadeParts h h₁ f f₁ (root.levels * root.levels + root.levels) 0 o (split k j (tree_at h root))) where
+  module _ (j : ℕ) (within : j < length (list_at h root)) {h₁ : List (Cell I T)} (o : PartedCells) (u : MadeParts h h₁ (root.levels * root.levels + root.levels) 0 o (split k j (tree_at h root))) where
     well : SplitAt root.levels (tree_at h root) j (parts_at h₁ 0 o)
     well = subst (SplitAt root.levels (tree_at h root) j) (sym u.reads) (split_keeps k root.levels (tree_at h root) j w within)
 
@@ -86,11 +85,11 @@ module _ {I T Q : Type 0} (k : Algebra I T Q) (h : List (Cell I T)) (root : Root
     push_fits =
         omega (arith, ap count_node found.1, count_is 0 (tree_at h₁ o.right) right_ready, ap length parted.right, length-drop (suc j) (list_at h root))
 
-    module _ {h₂ : List (Cell I T)} {f₂ : FreeList} {r : Root} (v : MadeTree h₁ h₂ f₁ f₂ (2 * r.levels - 1) 0 r pushed) where
+    module _ {h₂ : List (Cell I T)} {r : Root} (v : MadeTree h₁ h₂ (2 * r.levels - 1) 0 r pushed) where
       left_kept : tree_at h₂ o.left ≡ tree_at h₁ o.left
       left_kept = keep_tree v.grown.extends o.left.levels 0 o.left.at left_ready
 
-      pub parted_made : MadeTwo h h₂ f f₂ (root.levels * root.levels + 3 * root.levels) (record { left = o.left; right = r }) (take j (list_at h root)) (drop j (list_at h root))
+      pub parted_made : MadeTwo h h₂ (root.levels * root.levels + 3 * root.levels) (record { left = o.left; right = r }) (take j (list_at h root)) (drop j (list_at h root))
       parted_made =
           record {
             grown = grown_more (root.levels * root.levels + 3 * root.levels) u.grown v.grown (omega (arith, depth, made_levels v formed));

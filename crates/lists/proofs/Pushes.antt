@@ -14,7 +14,6 @@ use Rattle.cells.specs.Chain.{Taken}
 use Rattle.cells.specs.Made.{MadeTree}
 use Rattle.cells.specs.declared.cell.Body.TheVariants.{Item}
 use Rattle.cells.specs.declared.cell.Cell.{Cell}
-use Rattle.cells.specs.declared.cell.FreeList.{FreeList}
 use Rattle.cells.specs.declared.cell.Root.{Root}
 use Rattle.cells.proofs.Frames.{grown_more}
 use Rattle.cells.proofs.Opened.{levels_read, tree_none}
@@ -25,7 +24,7 @@ use Rattle.lists.specs.Lists.{tree_at, list_at, Whole, Right, Made, Took}
 use Rattle.lists.proofs.Roots.{formed_at, count_at, low_at, low_levels, shallow, whole_from, stays_from, made_from, right_from}
 
 -- an item in a cell of its own, and the tree that it is pushed to
-module _ {I T Q : Type 0} (k : Algebra I T Q) (s : Side) {h h₁ : List (Cell I T)} {f f₁ : FreeList} {x : ℕ} (item : I) (root : Root) (w : Whole h root) (fits : length (list_at h root) + 1 < 2 ^ 32) (t : Taken h h₁ f f₁ x (Item item)) where
+module _ {I T Q : Type 0} (k : Algebra I T Q) (s : Side) {h h₁ : List (Cell I T)} {x : ℕ} (item : I) (root : Root) (w : Whole h root) (fits : length (list_at h root) + 1 < 2 ^ 32) (t : Taken h h₁ x (Item item)) where
   leaf_read : node h₁ 0 x ≡ leaf item
   unfolding node
   leaf_read = ap leaf_of t.holds
@@ -63,13 +62,13 @@ module _ {I T Q : Type 0} (k : Algebra I T Q) (s : Side) {h h₁ : List (Cell I 
   pub push_fits : count_node (node h₁ 0 x) + count (tree_at h₁ root) < 2 ^ 32
   push_fits = omega (arith, ap count_node leaf_read, ap count kept, count_at h root w)
 
-  module _ {h₂ : List (Cell I T)} {f₂ : FreeList} {r : Root} (u : MadeTree h₁ h₂ f₁ f₂ (2 * r.levels - 1) 0 r (push k s (node h₁ 0 x) (tree_at h₁ root))) where
-    whole : MadeTree h h₂ f f₂ (2 * r.levels) 0 r (push k s (leaf item) (tree_at h root))
+  module _ {h₂ : List (Cell I T)} {r : Root} (u : MadeTree h₁ h₂ (2 * r.levels - 1) 0 r (push k s (node h₁ 0 x) (tree_at h₁ root))) where
+    whole : MadeTree h h₂ (2 * r.levels) 0 r (push k s (leaf item) (tree_at h root))
     whole =
         let some : 1 ≤ r.levels = omega (arith, made_levels u (push_formed k s 0 (node h₁ 0 x) (tree_at h₁ root) item_ready root_ready), some_levels k s 0 (node h₁ 0 x) (tree_at h₁ root) root_ready) in
         record { grown = grown_more (2 * r.levels) t.grown u.grown (omega arith); reads = u.reads ∙ pushed_is }
 
-    pub pushed_made : Made h h₂ f f₂ (2 * r.levels) r (along s (item ∷ []) (list_at h root))
+    pub pushed_made : Made h h₂ (2 * r.levels) r (along s (item ∷ []) (list_at h root))
     pushed_made = made_from (2 * r.levels) _ whole formed list (omega arith)
 
     pub pushed_right : Laws k → Right k h root → k.admitted item ≡ true → Right k h₂ r
@@ -86,12 +85,12 @@ module _ {I T Q : Type 0} (k : Algebra I T Q) (s : Side) (h : List (Cell I T)) (
   came : Came 0 s (tree_at h root) (pop k s (tree_at h root))
   came = popped k s 0 (tree_at h root) (formed_at h root w)
 
-  pub never_none : {h' : List (Cell I T)} {f f' : FreeList} → (root.levels ≡ 0 → ⊥) → MadePop h h' f f' root.levels 0 None (pop k s (tree_at h root)) → ⊥
+  pub never_none : {h' : List (Cell I T)} → (root.levels ≡ 0 → ⊥) → MadePop h h' root.levels 0 None (pop k s (tree_at h root)) → ⊥
   never_none some u =
       let c = subst (Came 0 s (tree_at h root)) (sym u.reads) came in
       some (sym (levels_read h root.levels 0 root.at (formed_at h root w)) ∙ c.0)
 
-  module _ {h' : List (Cell I T)} {f f' : FreeList} (x : Popped) (u : MadePop h h' f f' root.levels 0 (Some x) (pop k s (tree_at h root))) where
+  module _ {h' : List (Cell I T)} (x : Popped) (u : MadePop h h' root.levels 0 (Some x) (pop k s (tree_at h root))) where
     got_well : Came 0 s (tree_at h root) (got (node h' 0 x.finger) (tree_at h' x.rest))
     got_well = subst (Came 0 s (tree_at h root)) (sym u.reads) came
 

@@ -11,7 +11,6 @@ use Rattle.model.proofs.Doubling.{most_is_largest, levels_within}
 use Rattle.cells.specs.Chain.{Extends}
 use Rattle.cells.specs.Made.{MadeTree}
 use Rattle.cells.specs.declared.cell.Cell.{Cell}
-use Rattle.cells.specs.declared.cell.FreeList.{FreeList}
 use Rattle.cells.specs.declared.cell.Root.{Root}
 use Rattle.cells.proofs.Frames.{keep_tree, grown_most}
 use Rattle.cells.proofs.Opened.{levels_read}
@@ -54,7 +53,7 @@ module _ {I T : Type 0} {h h' : List (Cell I T)} where
   stays_from x old w = keep_tree x old.levels 0 old.at (formed_at h old w)
 
   -- what was made of a formed tree, as a list
-  pub made_from : {f f' : FreeList} {c : ℕ} {r : Root} {t : Tree I T} (most : ℕ) (xs : List I) → MadeTree h h' f f' c 0 r t → Formed 0 t → items t ≡ xs → c ≤ most → Made h h' f f' most r xs
+  pub made_from : {c : ℕ} {r : Root} {t : Tree I T} (most : ℕ) (xs : List I) → MadeTree h h' c 0 r t → Formed 0 t → items t ≡ xs → c ≤ most → Made h h' most r xs
   made_from {f} {f'} {c} {r} {t} most xs u w e l =
       record {
         grown = grown_most most u.grown l;
@@ -63,5 +62,5 @@ module _ {I T : Type 0} {h h' : List (Cell I T)} where
         list = ap items u.reads ∙ e;
       }
 
-  pub right_from : {Q : Type 0} (k : Algebra I T Q) {f f' : FreeList} {c : ℕ} {r : Root} {t : Tree I T} → MadeTree h h' f f' c 0 r t → Sound k t → Right k h' r
+  pub right_from : {Q : Type 0} (k : Algebra I T Q) {c : ℕ} {r : Root} {t : Tree I T} → MadeTree h h' c 0 r t → Sound k t → Right k h' r
   right_from k u s = subst (Sound k) (sym u.reads) s

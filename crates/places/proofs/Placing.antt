@@ -14,7 +14,6 @@ use Rattle.cells.specs.Chain.{Taken}
 use Rattle.cells.specs.Fingers.{listed, listed_some, front_of}
 use Rattle.cells.specs.Made.{MadeNode, MadeRun}
 use Rattle.cells.specs.declared.cell.Cell.{Cell}
-use Rattle.cells.specs.declared.cell.FreeList.{FreeList}
 use Rattle.cells.specs.declared.cell.Body.TheVariants.{Item}
 use Rattle.cells.specs.declared.fingers.Digit.{Digit as Filled}
 use Rattle.cells.proofs.Frames.{keep_nodes, grown_more, grown_most}
@@ -52,7 +51,7 @@ pub three_listed : (d : Filled) → d.count ≡ 3 → listed d ≡ get_or d.at 0
 three_listed d e = ap (λ n. front_of n d.at) e
 
 module _ {I T Q : Type 0} (q : Algebra I T Q) (x : I) (h : List (Cell I T)) where
-  pub leaf_made : {h' : List (Cell I T)} {f f' : FreeList} {r : ℕ} (k i : ℕ) (a : Node I T) → k ≡ 0 → Taken h h' f f' r (Item x) → MadeNode h h' f f' (k + 1) k r (replaced_node q x k i a)
+  pub leaf_made : {h' : List (Cell I T)} {r : ℕ} (k i : ℕ) (a : Node I T) → k ≡ 0 → Taken h h' r (Item x) → MadeNode h h' (k + 1) k r (replaced_node q x k i a)
   unfolding node replaced_node
   leaf_made {h'} {f} {f'} {r} k i a z t = record { grown = grown_most (k + 1) t.grown (omega arith); reads = subst (λ k. node h' k r ≡ replaced_node q x k i a) (sym z) (ap leaf_of t.holds) }
 
@@ -65,7 +64,7 @@ module _ {I T Q : Type 0} (q : Algebra I T Q) (x : I) (h : List (Cell I T)) wher
     index_within = omega (arith, (cut_known h k i ps v l r p).few, length-map (listed_some r.before) (node h k), length-map ps (node h k))
 
   -- fingers of which one was made anew
-  module _ (k : ℕ) (ps : List ℕ) (v : Each k (nodes h k ps)) (i : ℕ) (l : i < count_run (nodes h k ps)) (r : Cutting) (p : cut_at h k r ≡ cut i [] (nodes h k ps)) {h₁ : List (Cell I T)} {f f₁ : FreeList} {c : ℕ} (y : ℕ) (made : MadeNode h h₁ f f₁ c k y (replaced_node q x k r.offset (node h k r.finger))) (n : ℕ) (en : n ≡ length (listed_some r.before)) (ns : List ℕ) (e : ns ≡ set ps n y) where
+  module _ (k : ℕ) (ps : List ℕ) (v : Each k (nodes h k ps)) (i : ℕ) (l : i < count_run (nodes h k ps)) (r : Cutting) (p : cut_at h k r ≡ cut i [] (nodes h k ps)) {h₁ : List (Cell I T)} {c : ℕ} (y : ℕ) (made : MadeNode h h₁ c k y (replaced_node q x k r.offset (node h k r.finger))) (n : ℕ) (en : n ≡ length (listed_some r.before)) (ns : List ℕ) (e : ns ≡ set ps n y) where
     swapped : nodes h₁ k ns ≡ swap (replaced_node q x k) i (nodes h k ps)
     swapped =
         let index : n ≡ length (nodes h k (listed_some r.before)) = en ∙ sym (length-map (listed_some r.before) (node h k)) in
@@ -78,7 +77,7 @@ module _ {I T Q : Type 0} (q : Algebra I T Q) (x : I) (h : List (Cell I T)) wher
     pub swapped_count : count_run (nodes h₁ k ns) ≡ count_run (nodes h k ps)
     swapped_count = count_run_is front k (nodes h₁ k ns) swapped_ready ∙ ap length (ap (run front) swapped ∙ (run_keeps q x k i (nodes h k ps) v l).1.0) ∙ length-set (run front (nodes h k ps)) i x ∙ sym (count_run_is front k (nodes h k ps) v)
 
-    pub run_made : MadeRun h h₁ f f₁ c k ns (swap (replaced_node q x k) i (nodes h k ps))
+    pub run_made : MadeRun h h₁ c k ns (swap (replaced_node q x k) i (nodes h k ps))
     run_made = record { grown = made.grown; reads = swapped }
 
     module _ (k' at : ℕ) (s : suc k ≡ k') (opened : nodes h k ps ≡ fingers front (node h (suc k) at)) where
@@ -88,6 +87,6 @@ module _ {I T Q : Type 0} (q : Algebra I T Q) (x : I) (h : List (Cell I T)) wher
           let long = ap length e ∙ length-set ps n y ∙ sym (length-map ps (node h k)) ∙ ap length opened in
           (omega (arith, long, few.0), omega (arith, long, few.1))
 
-      pub node_made : {h₂ : List (Cell I T)} {f₂ : FreeList} {o : ℕ} → c + 1 ≤ k' + 1 → MadeNode h₁ h₂ f₁ f₂ 1 (suc k) o (regroup q (nodes h₁ k ns)) → MadeNode h h₂ f f₂ (k' + 1) k' o (replaced_node q x k' i (node h k' at))
+      pub node_made : {h₂ : List (Cell I T)} {o : ℕ} → c + 1 ≤ k' + 1 → MadeNode h₁ h₂ 1 (suc k) o (regroup q (nodes h₁ k ns)) → MadeNode h h₂ (k' + 1) k' o (replaced_node q x k' i (node h k' at))
       unfolding replaced_node
       node_made {h₂} {f₂} {o} d z = record { grown = grown_more (k' + 1) made.grown z.grown d; reads = subst (λ j. node h₂ j o ≡ replaced_node q x j i (node h j at)) s (z.reads ∙ ap (regroup q) (swapped ∙ ap (swap (replaced_node q x k) i) opened)) }

@@ -14,7 +14,7 @@ use Rattle.model.proofs.Popping.{fingers_formed, fingers_weighed}
 use Rattle.model.proofs.Appending.{run_onto, each_onto, all_onto}
 use Rattle.model.proofs.Seeking.{seek_stops, seek_lands}
 use Rattle.model.proofs.Forms.{run_some}
-use Rattle.cells.specs.Cells.{node, nodes, tree}
+use Rattle.cells.specs.Cells.{node, nodes, tree, rooted}
 use Rattle.cells.specs.Fingers.{listed}
 use Rattle.cells.specs.Made.{SeenDeep}
 use Rattle.cells.proofs.Fours.{listed_length}
@@ -58,7 +58,7 @@ module _ {I T : Type 0} (h : List (Cell I T)) (k x : ℕ) (w : FormedNode (suc k
 
 module _ {I T Q : Type 0} {k : Algebra I T Q} (laws : Laws k) (h : List (Cell I T)) (level : ℕ) (q : Q) (n : ℕ) (acc : T) (root : Root) where
   abbrev whole : Tree I T
-  whole = tree h root.levels level root.at
+  whole = rooted h level root
 
   -- a level of one finger
   pub spot_single : Formed level whole → (x : ℕ) → whole ≡ single (node h level x) → SpottedTree k h level q n acc whole (record { finger = x; position = n; before = acc })
@@ -75,7 +75,7 @@ module _ {I T Q : Type 0} {k : Algebra I T Q} (laws : Laws k) (h : List (Cell I 
     F = nodes h level (listed f)
 
     abbrev M : Tree I T
-    M = tree h m.levels (suc level) m.at
+    M = rooted h (suc level) m
 
     abbrev B : List (Node I T)
     B = nodes h level (listed b)

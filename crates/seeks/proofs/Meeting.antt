@@ -23,16 +23,16 @@ module _ {I T Q : Type 0} (k : Algebra I T Q) where
 module _ {I T Q : Type 0} {k : Algebra I T Q} (q : Q) (n : ℕ) (acc : T) where
   -- the whole row is the node
   pub met_here : (a : Node I T) → Sound k (single a) → k.fair acc → k.met (k.joined acc (total k (items_node a))) q ≡ true → MetIn k q n acc (items_node a) n acc a
-  met_here a s f i = record { sound = s; fair = f; met = i; same = refl }
+  met_here a s f i = record { fair = f; met = i; same = refl }
 
   module _ {xs : List I} {j : ℕ} {t : T} {a : Node I T} where
     -- in the first part
     pub met_first : (ys : List I) → seek_from k q n acc (xs ++ ys) ≡ seek_from k q n acc xs → MetIn k q n acc xs j t a → MetIn k q n acc (xs ++ ys) j t a
-    met_first ys e m = record { sound = m.sound; fair = m.fair; met = m.met; same = e ∙ m.same }
+    met_first ys e m = record { fair = m.fair; met = m.met; same = e ∙ m.same }
 
     -- in a node, and there in a part of it
     pub met_below : {i : ℕ} {u : T} {b : Node I T} → MetIn k q n acc xs j t a → MetIn k q j t (items_node a) i u b → MetIn k q n acc xs i u b
-    met_below m l = record { sound = l.sound; fair = l.fair; met = l.met; same = m.same ∙ l.same }
+    met_below m l = record { fair = l.fair; met = l.met; same = m.same ∙ l.same }
 
 module _ {I T Q : Type 0} {k : Algebra I T Q} (laws : Laws k) (q : Q) (n : ℕ) (acc : T) (f : k.fair acc) where
   module _ (xs ys : List I) (u : Admitted k xs) where
@@ -49,7 +49,7 @@ module _ {I T Q : Type 0} {k : Algebra I T Q} (laws : Laws k) (q : Q) (n : ℕ) 
 
       pub met_later : {j : ℕ} {t : T} {a : Node I T} → k.met next q ≡ false → MetIn k q m next ys j t a → MetIn k q n acc (xs ++ ys) j t a
       met_later o r = record {
-        sound = r.sound;
+       
         fair = r.fair;
         met = r.met;
         same = seek_skips laws q n acc xs ys f u (ap (λ z. k.met z q) (sym next_is) ∙ o) ∙ ap₂ (λ m z. seek_from k q m z ys) (sym m_is) (sym next_is) ∙ r.same;

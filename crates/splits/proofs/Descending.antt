@@ -9,13 +9,12 @@ use Rattle.model.specs.Split.{choose, cut, Parts, parts, in_front, in_back, in_n
 use Rattle.model.specs.Forms.{Each}
 use Rattle.model.proofs.Forms.{count_node_is, count_is}
 use Rattle.model.proofs.Splitting.{PartsWell, WellParted, parts_counts, split_well}
-use Rattle.cells.specs.Cells.{node, nodes, tree}
+use Rattle.cells.specs.Cells.{node, nodes, tree, rooted}
 use Rattle.cells.specs.Fingers.{listed}
 use Rattle.cells.specs.Chain.{Sound}
 use Rattle.cells.specs.Made.{SeenDeep}
 use Rattle.cells.specs.declared.cell.Cell.{Cell}
 use Rattle.cells.specs.declared.cell.Root.{Root}
-use Rattle.cells.specs.declared.cell.FreeList.{FreeList}
 use Rattle.cells.specs.declared.fingers.Digit.{Digit as Filled}
 use Rattle.cells.proofs.Frames.{keep_nodes, grown_more, grown_most}
 use Rattle.cells.proofs.Opened.{levels_read, tree_none}
@@ -30,31 +29,31 @@ pub squares : (e d : ℕ) → suc e ≡ d → d * d + d ≡ (e * e + e) + (2 * e
 squares e d s = subst (λ d. d * d + d ≡ (e * e + e) + (2 * e + 2)) s (omega (arith, suc-mul e e))
 
 module _ {I T : Type 0} where
-  pub parts_as : {h h' : List (Cell I T)} {f f' : FreeList} {m k : ℕ} {r : Halves} {p : Parts I T} (c : ℕ) (p' : Parts I T) → MadeParts h h' f f' m k r p → p ≡ p' → m ≤ c → MadeParts h h' f f' c k r p'
+  pub parts_as : {h h' : List (Cell I T)} {m k : ℕ} {r : Halves} {p : Parts I T} (c : ℕ) (p' : Parts I T) → MadeParts h h' m k r p → p ≡ p' → m ≤ c → MadeParts h h' c k r p'
   parts_as c p' u e l = record { grown = grown_most c u.grown l; reads = u.reads ∙ e }
 
-  pub single_done : {Q : Type 0} (q : Algebra I T Q) (h : List (Cell I T)) (f : FreeList) (c k x i : ℕ) (t : Tree I T) → Sound h f → t ≡ single (node h k x) → MadeParts h h f f c k (record { left = record { levels = 0; at = 0 }; finger = x; offset = i; right = record { levels = 0; at = 0 } }) (split q i t)
+  pub single_done : {Q : Type 0} (q : Algebra I T Q) (h : List (Cell I T)) (c k x i : ℕ) (t : Tree I T) → Sound h f → t ≡ single (node h k x) → MadeParts h h c k (record { left = record { levels = 0; at = 0 }; finger = x; offset = i; right = record { levels = 0; at = 0 } }) (split q i t)
   single_done q h f c k x i t u e = record { grown = grown_none c u; reads = ap (λ t. parts t (node h k x) t i) (tree_none h 0 k 0 refl) ∙ ap (split q i) (sym e) }
 
   -- a level whose middle is in halves
-  pub middle_is : {Q : Type 0} (q : Algebra I T Q) (h : List (Cell I T)) (k : ℕ) (near far : List ℕ) (o : Halves) (ps : List ℕ) → nodes h k ps ≡ fingers front (node h (suc k) o.finger) → (r : Cutting) → cut_at h k r ≡ cut o.offset [] (nodes h k ps) → in_node q (nodes h k near) (tree h o.left.levels (suc k) o.left.at) (tree h o.right.levels (suc k) o.right.at) (nodes h k far) (cut_at h k r) ≡ in_middle q (nodes h k near) (nodes h k far) (parts_at h (suc k) o)
-  middle_is q h k near far o ps opened r e = ap (in_node q (nodes h k near) (tree h o.left.levels (suc k) o.left.at) (tree h o.right.levels (suc k) o.right.at) (nodes h k far)) (e ∙ ap (cut o.offset []) opened)
+  pub middle_is : {Q : Type 0} (q : Algebra I T Q) (h : List (Cell I T)) (k : ℕ) (near far : List ℕ) (o : Halves) (ps : List ℕ) → nodes h k ps ≡ fingers front (node h (suc k) o.finger) → (r : Cutting) → cut_at h k r ≡ cut o.offset [] (nodes h k ps) → in_node q (nodes h k near) (rooted h (suc k) o.left) (rooted h (suc k) o.right) (nodes h k far) (cut_at h k r) ≡ in_middle q (nodes h k near) (nodes h k far) (parts_at h (suc k) o)
+  middle_is q h k near far o ps opened r e = ap (in_node q (nodes h k near) (rooted h (suc k) o.left) (rooted h (suc k) o.right) (nodes h k far)) (e ∙ ap (cut o.offset []) opened)
 
 -- a level, from the left
 module _ {I T Q : Type 0} (q : Algebra I T Q) (h : List (Cell I T)) (k i : ℕ) (root : Root) {near far : Filled} {m : Root} (seen : SeenDeep h k front root near m far) where
   middle : Tree I T
-  middle = tree h m.levels (suc k) m.at
+  middle = rooted h (suc k) m
 
   -- what the answers y and z make of it, where j is the position past its front
   levelled : ℕ → Bool → Bool → Parts I T
   levelled j y z = choose y (in_front q middle (nodes h k (listed far)) (cut i [] (nodes h k (listed near)))) (choose z (in_middle q (nodes h k (listed near)) (nodes h k (listed far)) (split q j middle)) (in_back q (nodes h k (listed near)) middle (cut (j - count middle) [] (onto (nodes h k (listed far)) []))))
 
-  level_is : (j : ℕ) (y z : Bool) → j ≡ i - count_run (nodes h k (listed near)) → y ≡ ltb i (count_run (nodes h k (listed near))) → z ≡ ltb j (count middle) → levelled j y z ≡ split q i (tree h root.levels k root.at)
+  level_is : (j : ℕ) (y z : Bool) → j ≡ i - count_run (nodes h k (listed near)) → y ≡ ltb i (count_run (nodes h k (listed near))) → z ≡ ltb j (count middle) → levelled j y z ≡ split q i (rooted h k root)
   unfolding middle levelled
   level_is j y z ej ey ez = ap (levelled j y) ez ∙ ap (λ y. levelled j y (ltb j (count middle))) ey ∙ ap (λ j. levelled j (ltb i (count_run (nodes h k (listed near)))) (ltb j (count middle))) ej ∙ sym (ap (split q i) seen.is)
 
   -- it is cut at its front
-  pub front_done : {h' : List (Cell I T)} {f f' : FreeList} {o : Halves} (r : Cutting) → cut_at h k r ≡ cut i [] (nodes h k (listed near)) → (c : ℕ) → i < count_run (nodes h k (listed near)) → m.levels + 2 ≤ c → MadeParts h h' f f' (m.levels + 2) k o (in_front q (tree h m.levels (suc k) m.at) (nodes h k (listed far)) (cut_at h k r)) → MadeParts h h' f f' c k o (split q i (tree h root.levels k root.at))
+  pub front_done : {h' : List (Cell I T)} {o : Halves} (r : Cutting) → cut_at h k r ≡ cut i [] (nodes h k (listed near)) → (c : ℕ) → i < count_run (nodes h k (listed near)) → m.levels + 2 ≤ c → MadeParts h h' (m.levels + 2) k o (in_front q (rooted h (suc k) m) (nodes h k (listed far)) (cut_at h k r)) → MadeParts h h' c k o (split q i (rooted h k root))
   unfolding middle levelled
   front_done r e c y l u = parts_as c _ u (ap (in_front q middle (nodes h k (listed far))) e ∙ level_is (i - count_run (nodes h k (listed near))) true (ltb (i - count_run (nodes h k (listed near))) (count middle)) refl (lt-true i (count_run (nodes h k (listed near))) y) refl) l
 
@@ -67,23 +66,23 @@ module _ {I T Q : Type 0} (q : Algebra I T Q) (h : List (Cell I T)) (k i : ℕ) 
     at = ap (λ n. i - n) en
 
     -- it is cut at its back
-    pub back_done : {h' : List (Cell I T)} {f f' : FreeList} {o : Halves} (p : ℕ) → p ≡ count (tree h m.levels (suc k) m.at) → p ≤ i - n → (ps : List ℕ) → ps ≡ onto (listed far) [] → (r : Cutting) → cut_at h k r ≡ cut (i - n - p) [] (nodes h k ps) → (c : ℕ) → m.levels + 2 ≤ c → MadeParts h h' f f' (m.levels + 2) k o (in_back q (nodes h k (listed near)) (tree h m.levels (suc k) m.at) (cut_at h k r)) → MadeParts h h' f f' c k o (split q i (tree h root.levels k root.at))
+    pub back_done : {h' : List (Cell I T)} {o : Halves} (p : ℕ) → p ≡ count (rooted h (suc k) m) → p ≤ i - n → (ps : List ℕ) → ps ≡ onto (listed far) [] → (r : Cutting) → cut_at h k r ≡ cut (i - n - p) [] (nodes h k ps) → (c : ℕ) → m.levels + 2 ≤ c → MadeParts h h' (m.levels + 2) k o (in_back q (nodes h k (listed near)) (rooted h (suc k) m) (cut_at h k r)) → MadeParts h h' c k o (split q i (rooted h k root))
     unfolding middle levelled
     back_done p ep over ps turned r e c l u =
         let here = e ∙ ap (λ p. cut (i - n - p) [] (nodes h k ps)) ep ∙ ap (cut (i - n - count middle) []) (ap (nodes h k) turned ∙ nodes_onto h k (listed far) []) in
         parts_as c _ u (ap (in_back q (nodes h k (listed near)) middle) here ∙ level_is (i - n) false false at past_front (le-false (i - n) (count middle) (omega arith))) l
 
     -- it is cut in its middle
-    module _ (k' : ℕ) (s : suc k ≡ k') (l : i - n < count (tree h m.levels k' m.at)) {h₁ : List (Cell I T)} {f f₁ : FreeList} {c : ℕ} (o : Halves) (made : MadeParts h h₁ f f₁ c k' o (split q (i - n) (tree h m.levels k' m.at))) where
+    module _ (k' : ℕ) (s : suc k ≡ k') (l : i - n < count (tree h m.levels k' m.at)) {h₁ : List (Cell I T)} {c : ℕ} (o : Halves) (made : MadeParts h h₁ c k' o (split q (i - n) (tree h m.levels k' m.at))) where
       within : i - n < count middle
       unfolding middle
-      within = subst (λ j. i - n < count (tree h m.levels j m.at)) (sym s) l
+      within = subst (λ j. i - n < count (rooted h j m)) (sym s) l
 
       inner_is : parts_at h₁ (suc k) o ≡ split q (i - n) middle
       unfolding middle
-      inner_is = subst (λ j. parts_at h₁ j o ≡ split q (i - n) (tree h m.levels j m.at)) (sym s) made.reads
+      inner_is = subst (λ j. parts_at h₁ j o ≡ split q (i - n) (rooted h j m)) (sym s) made.reads
 
-      pub inner : PartsWell (suc k) (i - n) (levels (tree h m.levels (suc k) m.at)) (items (tree h m.levels (suc k) m.at)) (tree h₁ o.left.levels (suc k) o.left.at) (node h₁ (suc k) o.finger) (tree h₁ o.right.levels (suc k) o.right.at) o.offset
+      pub inner : PartsWell (suc k) (i - n) (levels (rooted h (suc k) m)) (items (rooted h (suc k) m)) (rooted h₁ (suc k) o.left) (node h₁ (suc k) o.finger) (rooted h₁ (suc k) o.right) o.offset
       unfolding middle
       inner = subst (WellParted (suc k) (i - n) (levels middle) (items middle)) (sym inner_is) (split_well q (suc k) (i - n) middle seen.middle_formed (let c = count_is (suc k) middle seen.middle_formed in let l = within in omega arith))
 
@@ -108,10 +107,10 @@ module _ {I T Q : Type 0} (q : Algebra I T Q) (h : List (Cell I T)) (k i : ℕ) 
       pub far_ready : Each k (nodes h₁ k (listed far))
       far_ready = subst (Each k) (sym far_kept) seen.far_formed
 
-      pub inner_fits : count_run (nodes h₁ k (listed near)) + (count (tree h₁ o.left.levels (suc k) o.left.at) + (count_node (node h₁ (suc k) o.finger) + (count (tree h₁ o.right.levels (suc k) o.right.at) + count_run (nodes h₁ k (listed far))))) ≡ count (tree h root.levels k root.at)
-      inner_fits = omega (arith, seen.counts, parts_counts inner, count_is (suc k) (tree h m.levels (suc k) m.at) seen.middle_formed, ap count_run near_kept, ap count_run far_kept)
+      pub inner_fits : count_run (nodes h₁ k (listed near)) + (count (rooted h₁ (suc k) o.left) + (count_node (node h₁ (suc k) o.finger) + (count (rooted h₁ (suc k) o.right) + count_run (nodes h₁ k (listed far))))) ≡ count (rooted h k root)
+      inner_fits = omega (arith, seen.counts, parts_counts inner, count_is (suc k) (rooted h (suc k) m) seen.middle_formed, ap count_run near_kept, ap count_run far_kept)
 
-      pub middle_done : {h₂ : List (Cell I T)} {f₂ : FreeList} {x : Halves} (d : ℕ) → c + (o.left.levels + o.right.levels + 2) ≤ d → MadeParts h₁ h₂ f₁ f₂ (o.left.levels + o.right.levels + 2) k x (in_middle q (nodes h₁ k (listed near)) (nodes h₁ k (listed far)) (parts_at h₁ (suc k) o)) → MadeParts h h₂ f f₂ d k x (split q i (tree h root.levels k root.at))
+      pub middle_done : {h₂ : List (Cell I T)} {x : Halves} (d : ℕ) → c + (o.left.levels + o.right.levels + 2) ≤ d → MadeParts h₁ h₂ (o.left.levels + o.right.levels + 2) k x (in_middle q (nodes h₁ k (listed near)) (nodes h₁ k (listed far)) (parts_at h₁ (suc k) o)) → MadeParts h h₂ d k x (split q i (rooted h k root))
       unfolding middle levelled
       middle_done d e x =
           let kept = ap (λ x. in_middle q x (nodes h₁ k (listed far)) (parts_at h₁ (suc k) o)) near_kept ∙ ap (λ x. in_middle q (nodes h k (listed near)) x (parts_at h₁ (suc k) o)) far_kept ∙ ap (in_middle q (nodes h k (listed near)) (nodes h k (listed far))) inner_is in

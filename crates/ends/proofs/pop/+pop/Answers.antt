@@ -2,7 +2,7 @@ use Rattle.std.proofs.Common.{◌≡◌, suc, ◌+◌, ◌<◌, ◌≤◌, [], �
 use Rattle.model.specs.Tree.{count}
 use Rattle.model.specs.Forms.{Formed}
 use Rattle.model.specs.Ends.{pop}
-use Rattle.cells.specs.Cells.{end, tree}
+use Rattle.cells.specs.Cells.{end, tree, rooted}
 use Rattle.cells.specs.Fingers.{listed}
 use Rattle.cells.proofs.Opened.{tree_none}
 use Rattle.cells.proofs.Fours.{listed_length}
@@ -15,7 +15,7 @@ pop-below-requires g t c κs within =
     let step : suc c.args.level ≡ c.args.level + 1 = omega arith in
     let levels = seen.levels in
     let less : c.in-Deep.middle.levels < c.args.root.levels = omega arith in
-    let n = ap (λ j. count (tree c.args.cells.now c.in-Deep.middle.levels j c.in-Deep.middle.at)) step in (
+    let n = ap (λ j. count (rooted c.args.arena.now j c.in-Deep.middle)) step in (
       search rules,
       (
         within.0,
@@ -31,7 +31,7 @@ pop-below-requires g t c κs within =
                   c.requires.sound,
                   (
                     omega (arith, c.requires.shallow),
-                    (subst (λ j. Formed j (tree c.args.cells.now c.in-Deep.middle.levels j c.in-Deep.middle.at)) step seen.middle_formed, omega (arith, n, seen.counts, c.requires.fits)),
+                    (subst (λ j. Formed j (rooted c.args.arena.now j c.in-Deep.middle)) step seen.middle_formed, omega (arith, n, seen.counts, c.requires.fits)),
                   ),
                 ),
               ),
@@ -49,11 +49,11 @@ refill-rest-requires g t c =
     let spent = c.pop-below.ensures.grown.spent in
     record {
       room = omega (arith, c.requires.room);
-      sound = c.pop-below.ensures.grown.sound;
-      shallow = omega (arith, below_shallow g.K.Kind.kind (end c.args.side) c.args.cells.now c.args.level c.in-Deep.middle seen.middle_formed (listed c.in-Deep.far) seen.far_formed step c.pop-below.ensures, c.requires.shallow);
-      below = below_well g.K.Kind.kind (end c.args.side) c.args.cells.now c.args.level c.in-Deep.middle seen.middle_formed (listed c.in-Deep.far) seen.far_formed step c.pop-below.ensures;
-      far = far_ready g.K.Kind.kind (end c.args.side) c.args.cells.now c.args.level c.in-Deep.middle seen.middle_formed (listed c.in-Deep.far) seen.far_formed step c.pop-below.ensures;
-      fits = omega (arith, refill_count g.K.Kind.kind (end c.args.side) c.args.cells.now c.args.level c.in-Deep.middle seen.middle_formed (listed c.in-Deep.far) seen.far_formed step c.pop-below.ensures, seen.counts, c.requires.fits);
+     
+      shallow = omega (arith, below_shallow g.K.Kind.kind (end c.args.side) c.args.arena.now c.args.level c.in-Deep.middle seen.middle_formed (listed c.in-Deep.far) seen.far_formed step c.pop-below.ensures, c.requires.shallow);
+      below = below_well g.K.Kind.kind (end c.args.side) c.args.arena.now c.args.level c.in-Deep.middle seen.middle_formed (listed c.in-Deep.far) seen.far_formed step c.pop-below.ensures;
+      far = far_ready g.K.Kind.kind (end c.args.side) c.args.arena.now c.args.level c.in-Deep.middle seen.middle_formed (listed c.in-Deep.far) seen.far_formed step c.pop-below.ensures;
+      fits = omega (arith, refill_count g.K.Kind.kind (end c.args.side) c.args.arena.now c.args.level c.in-Deep.middle seen.middle_formed (listed c.in-Deep.far) seen.far_formed step c.pop-below.ensures, seen.counts, c.requires.fits);
     }
 
 pub returns-in-Empty : goal.returns-in-Empty
@@ -62,7 +62,7 @@ returns-in-Empty g t c = record { grown = grown_none c.args.root.levels c.requir
 pub returns-in-Single : goal.returns-in-Single
 returns-in-Single g t c = record {
   grown = grown_none c.args.root.levels c.requires.sound;
-  reads = rw (tree_none c.args.cells.now 0 c.args.level 0 refl) (sym (ap (pop g.K.Kind.kind (end c.args.side)) c.in-Single.ensures.0));
+  reads = rw (tree_none c.args.arena.now 0 c.args.level 0 refl) (sym (ap (pop g.K.Kind.kind (end c.args.side)) c.in-Single.ensures.0));
 }
 
 pub returns-in-Some : goal.returns-in-Some
@@ -70,7 +70,7 @@ returns-in-Some g t c =
     let seen = c.in-Deep.ensures in
     let e : listed c.in-Deep.near ≡ c.finger-finger.result ∷ listed c.in-Some.others = c.in-Some.ensures ∙ ap (λ x. x ∷ listed c.in-Some.others) (sym c.finger-finger.ensures) in
     let some : 1 ≤ length (listed c.in-Some.others) = omega (arith, listed_length c.in-Some.others, c.in-Some.others.filled.0) in
-    pop_first g.K.Kind.kind (end c.args.side) c.args.cells.now c.args.level c.args.root seen _ _ e (trimmed_some g.K.Kind.kind (end c.args.side) c.args.cells.now c.args.level c.args.root seen _ _ e some c.deep_at-rest.ensures)
+    pop_first g.K.Kind.kind (end c.args.side) c.args.arena.now c.args.level c.args.root seen _ _ e (trimmed_some g.K.Kind.kind (end c.args.side) c.args.arena.now c.args.level c.args.root seen _ _ e some c.deep_at-rest.ensures)
 
 pub returns-in-None : goal.returns-in-None
 returns-in-None g t c =
@@ -78,4 +78,4 @@ returns-in-None g t c =
     let step : suc c.args.level ≡ c.args.level + 1 = omega arith in
     let levels = seen.levels in
     let e : listed c.in-Deep.near ≡ c.finger-finger.result ∷ [] = c.in-None.ensures ∙ ap (λ x. x ∷ []) (sym c.finger-finger.ensures) in
-    pop_first g.K.Kind.kind (end c.args.side) c.args.cells.now c.args.level c.args.root seen _ [] e (emptied g.K.Kind.kind (end c.args.side) c.args.cells.now c.args.level c.in-Deep.middle seen.middle_formed (listed c.in-Deep.far) seen.far_formed step c.pop-below.ensures c.args.root.levels (omega arith) c.refill-rest.ensures)
+    pop_first g.K.Kind.kind (end c.args.side) c.args.arena.now c.args.level c.args.root seen _ [] e (emptied g.K.Kind.kind (end c.args.side) c.args.arena.now c.args.level c.in-Deep.middle seen.middle_formed (listed c.in-Deep.far) seen.far_formed step c.pop-below.ensures c.args.root.levels (omega arith) c.refill-rest.ensures)

@@ -10,7 +10,7 @@ use Rattle.ends.proofs.pop.refill.Goals as goal
 pub deep_at-requires : goal.deep_at-requires
 deep_at-requires g c =
     let k = c.args.level in
-    let h = c.args.cells.now in
+    let h = c.args.arena.now in
     let s = end c.args.side in
     let is = c.in-Some.is in
     let w = subst (PoppedWell h (suc k)) is c.requires.below in
@@ -18,7 +18,7 @@ deep_at-requires g c =
     let p = fingers_formed s k (node h (suc k) c.in-Some.inner.finger) w.0 in
     record {
       room = c.requires.room;
-      sound = c.requires.sound;
+     
       shallow = omega (arith, ap popped_levels is, c.requires.shallow);
       near = subst (Each k) (sym near) p.0.1.1;
       middle = w.1;

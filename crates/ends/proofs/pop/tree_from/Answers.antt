@@ -12,7 +12,7 @@ use Rattle.ends.proofs.pop.tree_from.Goals as goal
 pub deep_at-requires : goal.deep_at-requires
 deep_at-requires g c =
     let k = c.args.level in
-    let h = c.args.cells.now in
+    let h = c.args.arena.now in
     let d = c.args.digit in
     let near = listed c.init-near.result in
     let last = get_or (listed d) (d.count - 1) 0 in
@@ -22,7 +22,7 @@ deep_at-requires g c =
     let w = each_append h k near (last ∷ []) (subst (λ ps. Each k (nodes h k ps)) e c.requires.formed) in
     record {
       room = c.requires.room;
-      sound = c.requires.sound;
+     
       shallow = omega (arith, c.requires.shallow);
       near = w.0;
       middle = rw none tt;
@@ -42,4 +42,4 @@ returns g c =
     let top = d.filled.1 in
     let low = d.filled.0 in
     let more = c.if-digit-eq1.false in
-    made_as 1 _ c.deep_at.ensures (tree_from_more g.K.Kind.kind (end c.args.side) c.args.cells.now c.args.level _ _ _ _ e f (omega arith) (omega arith)) (omega arith)
+    made_as 1 _ c.deep_at.ensures (tree_from_more g.K.Kind.kind (end c.args.side) c.args.arena.now c.args.level _ _ _ _ e f (omega arith) (omega arith)) (omega arith)

@@ -9,14 +9,14 @@ use Rattle.ends.proofs.push.+push.Goals as goal
 pub deep_at-requires : goal.deep_at-requires
 deep_at-requires g t c =
     let k = c.args.level in
-    let h = c.args.cells.now in
+    let h = c.args.arena.now in
     let e = c.in-Single.ensures in
     let none = tree_none h 0 (suc k) 0 refl in
     let n = ap (λ ps. count_run (nodes h k ps)) c.one-near.ensures in
     let f = ap (λ ps. count_run (nodes h k ps)) c.one-far.ensures in
     record {
-      room = omega (arith, push_some g.K.Kind.kind (end c.args.side) c.args.cells.now c.args.level c.args.finger c.args.root c.requires.finger c.requires.formed, c.requires.room);
-      sound = c.requires.sound;
+      room = omega (arith, push_some g.K.Kind.kind (end c.args.side) c.args.arena.now c.args.level c.args.finger c.args.root c.requires.finger c.requires.formed, c.requires.room);
+     
       shallow = omega (arith, c.requires.shallow);
       near = rw c.one-near.ensures (c.requires.finger, tt);
       middle = rw none tt;
@@ -26,15 +26,15 @@ deep_at-requires g t c =
 
 pub returns-then-near-lt4 : goal.returns-then-near-lt4
 returns-then-near-lt4 g t c =
-    push_roomy g.K.Kind.kind (end c.args.side) c.args.cells.now c.args.level c.args.finger c.args.root c.requires.finger c.requires.formed c.in-Deep.ensures _ c.deep_at-then-near-lt4.ensures c.prepend-more.ensures c.if-near-lt4.true
+    push_roomy g.K.Kind.kind (end c.args.side) c.args.arena.now c.args.level c.args.finger c.args.root c.requires.finger c.requires.formed c.in-Deep.ensures _ c.deep_at-then-near-lt4.ensures c.prepend-more.ensures c.if-near-lt4.true
 
 pub three_at-three-requires : goal.three_at-three-requires
 three_at-three-requires g t c =
     let q = g.K.Kind.kind in
     let full = four_listed c.in-Deep.near c.if-near-lt4.false in
-    let e = fingers_formed q (end c.args.side) c.args.cells.now c.args.level c.args.finger c.args.root c.requires.finger c.requires.formed c.in-Deep.ensures full in
-    let n = fingers_count q (end c.args.side) c.args.cells.now c.args.level c.args.finger c.args.root c.requires.finger c.requires.formed c.in-Deep.ensures full in
-    record { room = omega (arith, push_some g.K.Kind.kind (end c.args.side) c.args.cells.now c.args.level c.args.finger c.args.root c.requires.finger c.requires.formed, c.requires.room); sound = c.requires.sound; near = e.1.0; middle = e.1.1.0; far = e.1.1.1.0; fits = omega (arith, n, c.requires.fits) }
+    let e = fingers_formed q (end c.args.side) c.args.arena.now c.args.level c.args.finger c.args.root c.requires.finger c.requires.formed c.in-Deep.ensures full in
+    let n = fingers_count q (end c.args.side) c.args.arena.now c.args.level c.args.finger c.args.root c.requires.finger c.requires.formed c.in-Deep.ensures full in
+    record { room = omega (arith, push_some g.K.Kind.kind (end c.args.side) c.args.arena.now c.args.level c.args.finger c.args.root c.requires.finger c.requires.formed, c.requires.room); near = e.1.0; middle = e.1.1.0; far = e.1.1.1.0; fits = omega (arith, n, c.requires.fits) }
 
 pub push-below-requires : goal.push-below-requires
 push-below-requires g t c κs within =
@@ -53,12 +53,12 @@ push-below-requires g t c κs within =
             (
               within.1.1.1,
               (
-                omega (arith, full_levels g.K.Kind.kind (end c.args.side) c.args.cells.now c.args.level c.args.finger c.args.root c.requires.finger c.requires.formed c.in-Deep.ensures full c.three_at-three.ensures step, c.requires.room),
+                omega (arith, full_levels g.K.Kind.kind (end c.args.side) c.args.arena.now c.args.level c.args.finger c.args.root c.requires.finger c.requires.formed c.in-Deep.ensures full c.three_at-three.ensures step, c.requires.room),
                 (
                   c.three_at-three.ensures.grown.sound,
                   (
                     omega (arith, c.requires.shallow),
-                    (middle_ready g.K.Kind.kind (end c.args.side) c.args.cells.now c.args.level c.args.finger c.args.root c.requires.finger c.requires.formed c.in-Deep.ensures full c.three_at-three.ensures step, (three_ready g.K.Kind.kind (end c.args.side) c.args.cells.now c.args.level c.args.finger c.args.root c.requires.finger c.requires.formed c.in-Deep.ensures full c.three_at-three.ensures step, omega (arith, carried_count g.K.Kind.kind (end c.args.side) c.args.cells.now c.args.level c.args.finger c.args.root c.requires.finger c.requires.formed c.in-Deep.ensures full c.three_at-three.ensures step, c.requires.fits))),
+                    (middle_ready g.K.Kind.kind (end c.args.side) c.args.arena.now c.args.level c.args.finger c.args.root c.requires.finger c.requires.formed c.in-Deep.ensures full c.three_at-three.ensures step, (three_ready g.K.Kind.kind (end c.args.side) c.args.arena.now c.args.level c.args.finger c.args.root c.requires.finger c.requires.formed c.in-Deep.ensures full c.three_at-three.ensures step, omega (arith, carried_count g.K.Kind.kind (end c.args.side) c.args.arena.now c.args.level c.args.finger c.args.root c.requires.finger c.requires.formed c.in-Deep.ensures full c.three_at-three.ensures step, c.requires.fits))),
                   ),
                 ),
               ),
@@ -72,41 +72,41 @@ pub deep_at-requires-in-Deep : goal.deep_at-requires-in-Deep
 deep_at-requires-in-Deep g t c =
     let full = four_listed c.in-Deep.near c.if-near-lt4.false in
     let step : suc c.args.level ≡ c.args.level + 1 = omega arith in
-    let l = below_levels g.K.Kind.kind (end c.args.side) c.args.cells.now c.args.level c.args.finger c.args.root c.requires.finger c.requires.formed c.in-Deep.ensures full c.three_at-three.ensures step c.push-below.ensures _ c.two-two.ensures in
+    let l = below_levels g.K.Kind.kind (end c.args.side) c.args.arena.now c.args.level c.args.finger c.args.root c.requires.finger c.requires.formed c.in-Deep.ensures full c.three_at-three.ensures step c.push-below.ensures _ c.two-two.ensures in
     let spent = c.three_at-three.ensures.grown.spent in
     let more = c.push-below.ensures.grown.spent in
     record {
-      room = omega (arith, full_levels g.K.Kind.kind (end c.args.side) c.args.cells.now c.args.level c.args.finger c.args.root c.requires.finger c.requires.formed c.in-Deep.ensures full c.three_at-three.ensures step, below_exact g.K.Kind.kind (end c.args.side) c.args.cells.now c.args.level c.args.finger c.args.root c.requires.finger c.requires.formed c.in-Deep.ensures full c.three_at-three.ensures step c.push-below.ensures _ c.two-two.ensures, below_some g.K.Kind.kind (end c.args.side) c.args.cells.now c.args.level c.args.finger c.args.root c.requires.finger c.requires.formed c.in-Deep.ensures full c.three_at-three.ensures step c.push-below.ensures _ c.two-two.ensures, spent, more, c.requires.room);
-      sound = c.push-below.ensures.grown.sound;
+      room = omega (arith, full_levels g.K.Kind.kind (end c.args.side) c.args.arena.now c.args.level c.args.finger c.args.root c.requires.finger c.requires.formed c.in-Deep.ensures full c.three_at-three.ensures step, below_exact g.K.Kind.kind (end c.args.side) c.args.arena.now c.args.level c.args.finger c.args.root c.requires.finger c.requires.formed c.in-Deep.ensures full c.three_at-three.ensures step c.push-below.ensures _ c.two-two.ensures, below_some g.K.Kind.kind (end c.args.side) c.args.arena.now c.args.level c.args.finger c.args.root c.requires.finger c.requires.formed c.in-Deep.ensures full c.three_at-three.ensures step c.push-below.ensures _ c.two-two.ensures, spent, more, c.requires.room);
+     
       shallow = omega (arith, l, c.requires.shallow);
-      near = near_ready g.K.Kind.kind (end c.args.side) c.args.cells.now c.args.level c.args.finger c.args.root c.requires.finger c.requires.formed c.in-Deep.ensures full c.three_at-three.ensures step c.push-below.ensures _ c.two-two.ensures;
-      middle = below_ready g.K.Kind.kind (end c.args.side) c.args.cells.now c.args.level c.args.finger c.args.root c.requires.finger c.requires.formed c.in-Deep.ensures full c.three_at-three.ensures step c.push-below.ensures _ c.two-two.ensures;
-      far = far_ready g.K.Kind.kind (end c.args.side) c.args.cells.now c.args.level c.args.finger c.args.root c.requires.finger c.requires.formed c.in-Deep.ensures full c.three_at-three.ensures step c.push-below.ensures _ c.two-two.ensures;
-      fits = omega (arith, level_count g.K.Kind.kind (end c.args.side) c.args.cells.now c.args.level c.args.finger c.args.root c.requires.finger c.requires.formed c.in-Deep.ensures full c.three_at-three.ensures step c.push-below.ensures _ c.two-two.ensures, c.requires.fits);
+      near = near_ready g.K.Kind.kind (end c.args.side) c.args.arena.now c.args.level c.args.finger c.args.root c.requires.finger c.requires.formed c.in-Deep.ensures full c.three_at-three.ensures step c.push-below.ensures _ c.two-two.ensures;
+      middle = below_ready g.K.Kind.kind (end c.args.side) c.args.arena.now c.args.level c.args.finger c.args.root c.requires.finger c.requires.formed c.in-Deep.ensures full c.three_at-three.ensures step c.push-below.ensures _ c.two-two.ensures;
+      far = far_ready g.K.Kind.kind (end c.args.side) c.args.arena.now c.args.level c.args.finger c.args.root c.requires.finger c.requires.formed c.in-Deep.ensures full c.three_at-three.ensures step c.push-below.ensures _ c.two-two.ensures;
+      fits = omega (arith, level_count g.K.Kind.kind (end c.args.side) c.args.arena.now c.args.level c.args.finger c.args.root c.requires.finger c.requires.formed c.in-Deep.ensures full c.three_at-three.ensures step c.push-below.ensures _ c.two-two.ensures, c.requires.fits);
     }
 
 pub returns-in-Empty : goal.returns-in-Empty
-returns-in-Empty g t c = push_empty g.K.Kind.kind (end c.args.side) c.args.cells.now c.args.level c.args.finger c.args.root c.requires.finger c.requires.formed c.make_single.ensures c.in-Empty.ensures.0
+returns-in-Empty g t c = push_empty g.K.Kind.kind (end c.args.side) c.args.arena.now c.args.level c.args.finger c.args.root c.requires.finger c.requires.formed c.make_single.ensures c.in-Empty.ensures.0
 
 pub returns-in-Single : goal.returns-in-Single
 returns-in-Single g t c =
-    push_single g.K.Kind.kind (end c.args.side) c.args.cells.now c.args.level c.args.finger c.args.root c.requires.finger c.requires.formed _ _ _ c.deep_at.ensures c.one-near.ensures c.one-far.ensures c.in-Single.ensures.0
+    push_single g.K.Kind.kind (end c.args.side) c.args.arena.now c.args.level c.args.finger c.args.root c.requires.finger c.requires.formed _ _ _ c.deep_at.ensures c.one-near.ensures c.one-far.ensures c.in-Single.ensures.0
 
 pub returns-else-near-lt4 : goal.returns-else-near-lt4
 returns-else-near-lt4 g t c =
     let full = four_listed c.in-Deep.near c.if-near-lt4.false in
     let step : suc c.args.level ≡ c.args.level + 1 = omega arith in
-    push_fuller g.K.Kind.kind (end c.args.side) c.args.cells.now c.args.level c.args.finger c.args.root c.requires.finger c.requires.formed c.in-Deep.ensures full c.three_at-three.ensures step c.push-below.ensures _ c.two-two.ensures c.deep_at-in-Deep.ensures
+    push_fuller g.K.Kind.kind (end c.args.side) c.args.arena.now c.args.level c.args.finger c.args.root c.requires.finger c.requires.formed c.in-Deep.ensures full c.three_at-three.ensures step c.push-below.ensures _ c.two-two.ensures c.deep_at-in-Deep.ensures
 
 pub deep_at-requires-then-near-lt4 : goal.deep_at-requires-then-near-lt4
 deep_at-requires-then-near-lt4 g t c =
     let k = c.args.level in
-    let h = c.args.cells.now in
+    let h = c.args.arena.now in
     let seen = c.in-Deep.ensures in
     let n = ap (λ ps. count_run (nodes h k ps)) c.prepend-more.ensures in
     record {
-      room = omega (arith, push_some g.K.Kind.kind (end c.args.side) c.args.cells.now c.args.level c.args.finger c.args.root c.requires.finger c.requires.formed, c.requires.room);
-      sound = c.requires.sound;
+      room = omega (arith, push_some g.K.Kind.kind (end c.args.side) c.args.arena.now c.args.level c.args.finger c.args.root c.requires.finger c.requires.formed, c.requires.room);
+     
       shallow = omega (arith, seen.levels, c.requires.shallow);
       near = rw c.prepend-more.ensures (c.requires.finger, seen.near_formed);
       middle = seen.middle_formed;

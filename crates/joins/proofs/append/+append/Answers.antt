@@ -2,7 +2,7 @@ use Rattle.std.proofs.Common.{◌≡◌, suc, ◌+◌, ◌<◌, ◌≤◌, [], �
 use Rattle.model.specs.Tree.{levels, count}
 use Rattle.model.specs.Append.{onto}
 use Rattle.model.specs.Forms.{Formed}
-use Rattle.cells.specs.Cells.{nodes, tree}
+use Rattle.cells.specs.Cells.{nodes, tree, rooted}
 use Rattle.cells.specs.Fingers.{listed}
 use Rattle.cells.proofs.Fours.{listed_length}
 use Rattle.cells.specs.Fingers.{listed_some}
@@ -15,14 +15,14 @@ use Rattle.joins.proofs.append.+append.Goals as goal
 pub push_run-requires : goal.push_run-requires
 push_run-requires g t c =
     let q = g.K.Kind.kind in
-    let h = c.args.cells.now in
+    let h = c.args.arena.now in
     let k = c.args.level in
     let ls = listed_some c.args.loose in
-    let u = tree h c.args.right.levels k c.args.right.at in
-    let e = onto_empty q h k (tree h c.args.left.levels k c.args.left.at) (nodes h k ls) u c.in-Empty.ensures.0 in
+    let u = rooted h k c.args.right in
+    let e = onto_empty q h k (rooted h k c.args.left) (nodes h k ls) u c.in-Empty.ensures.0 in
     record {
       room = base_room c.args.free.now.count ls _ _ e (omega (arith, some_length c.args.loose)) c.requires.room;
-      sound = c.requires.sound;
+     
       shallow = omega (arith, ap levels e, c.requires.shallow);
       formed = c.requires.right;
       run = c.requires.loose;
@@ -32,24 +32,24 @@ push_run-requires g t c =
 pub returns-in-Empty : goal.returns-in-Empty
 returns-in-Empty g t c =
     let q = g.K.Kind.kind in
-    let h = c.args.cells.now in
+    let h = c.args.arena.now in
     let k = c.args.level in
     let ls = listed_some c.args.loose in
-    base_made ls _ _ (onto_empty q h k (tree h c.args.left.levels k c.args.left.at) (nodes h k ls) (tree h c.args.right.levels k c.args.right.at) c.in-Empty.ensures.0) (omega (arith, some_length c.args.loose)) c.push_run.ensures
+    base_made ls _ _ (onto_empty q h k (rooted h k c.args.left) (nodes h k ls) (rooted h k c.args.right) c.in-Empty.ensures.0) (omega (arith, some_length c.args.loose)) c.push_run.ensures
 
 -- the left tree is a single finger
 pub push_after-requires : goal.push_after-requires
 push_after-requires g t c =
     let q = g.K.Kind.kind in
-    let h = c.args.cells.now in
+    let h = c.args.arena.now in
     let k = c.args.level in
     let ls = listed_some c.args.loose in
     let x = c.in-Single.finger in
     let is = c.in-Single.ensures.0 in
-    let e = onto_single q h k (tree h c.args.left.levels k c.args.left.at) x ls (tree h c.args.right.levels k c.args.right.at) is in
+    let e = onto_single q h k (rooted h k c.args.left) x ls (rooted h k c.args.right) is in
     record {
       room = base_room c.args.free.now.count (x ∷ ls) _ _ e (omega (arith, some_length c.args.loose)) c.requires.room;
-      sound = c.requires.sound;
+     
       shallow = omega (arith, ap levels e, c.requires.shallow);
       formed = c.requires.right;
       run = (subst (Formed k) is c.requires.left, c.requires.loose);
@@ -59,25 +59,25 @@ push_after-requires g t c =
 pub returns-in-Single : goal.returns-in-Single
 returns-in-Single g t c =
     let q = g.K.Kind.kind in
-    let h = c.args.cells.now in
+    let h = c.args.arena.now in
     let k = c.args.level in
     let ls = listed_some c.args.loose in
     let x = c.in-Single.finger in
-    base_made (x ∷ ls) _ _ (onto_single q h k (tree h c.args.left.levels k c.args.left.at) x ls (tree h c.args.right.levels k c.args.right.at) c.in-Single.ensures.0) (omega (arith, some_length c.args.loose)) c.push_after.ensures
+    base_made (x ∷ ls) _ _ (onto_single q h k (rooted h k c.args.left) x ls (rooted h k c.args.right) c.in-Single.ensures.0) (omega (arith, some_length c.args.loose)) c.push_after.ensures
 
 -- the right tree is empty
 pub push_run-requires-in-Empty-view : goal.push_run-requires-in-Empty-view
 push_run-requires-in-Empty-view g t c =
     let q = g.K.Kind.kind in
-    let h = c.args.cells.now in
+    let h = c.args.arena.now in
     let k = c.args.level in
     let ls = listed_some c.args.loose in
     let turned = listed_some c.reversed_some.result in
     let o = c.reversed_some.ensures in
-    let e = with_empty q h k ls turned o (tree h c.args.left.levels k c.args.left.at) _ _ _ _ _ (tree h c.args.right.levels k c.args.right.at) c.in-Deep.ensures.is c.in-Empty-view.ensures.0 in
+    let e = with_empty q h k ls turned o (rooted h k c.args.left) _ _ _ _ _ (rooted h k c.args.right) c.in-Deep.ensures.is c.in-Empty-view.ensures.0 in
     record {
       room = base_room c.args.free.now.count turned _ _ e (omega (arith, some_length c.reversed_some.result)) c.requires.room;
-      sound = c.requires.sound;
+     
       shallow = omega (arith, ap levels e, c.requires.shallow);
       formed = c.requires.left;
       run = turned_formed q h k ls turned o c.requires.loose;
@@ -87,28 +87,28 @@ push_run-requires-in-Empty-view g t c =
 pub returns-in-Empty-view : goal.returns-in-Empty-view
 returns-in-Empty-view g t c =
     let q = g.K.Kind.kind in
-    let h = c.args.cells.now in
+    let h = c.args.arena.now in
     let k = c.args.level in
     let ls = listed_some c.args.loose in
     let turned = listed_some c.reversed_some.result in
-    let e = with_empty q h k ls turned c.reversed_some.ensures (tree h c.args.left.levels k c.args.left.at) _ _ _ _ _ (tree h c.args.right.levels k c.args.right.at) c.in-Deep.ensures.is c.in-Empty-view.ensures.0 in
+    let e = with_empty q h k ls turned c.reversed_some.ensures (rooted h k c.args.left) _ _ _ _ _ (rooted h k c.args.right) c.in-Deep.ensures.is c.in-Empty-view.ensures.0 in
     base_made turned _ _ e (omega (arith, some_length c.reversed_some.result)) c.push_run-in-Empty-view.ensures
 
 -- the right tree is a single finger
 pub push_after-requires-in-Single-view : goal.push_after-requires-in-Single-view
 push_after-requires-in-Single-view g t c =
     let q = g.K.Kind.kind in
-    let h = c.args.cells.now in
+    let h = c.args.arena.now in
     let k = c.args.level in
     let ls = listed_some c.args.loose in
     let turned = listed_some c.reversed_some-in-Single-view.result in
     let o = c.reversed_some-in-Single-view.ensures in
     let x = c.in-Single-view.only in
     let is = c.in-Single-view.ensures.0 in
-    let e = with_single q h k ls turned o (tree h c.args.left.levels k c.args.left.at) _ _ _ _ _ (tree h c.args.right.levels k c.args.right.at) x c.in-Deep.ensures.is is in
+    let e = with_single q h k ls turned o (rooted h k c.args.left) _ _ _ _ _ (rooted h k c.args.right) x c.in-Deep.ensures.is is in
     record {
       room = base_room c.args.free.now.count (x ∷ turned) _ _ e (omega (arith, some_length c.reversed_some-in-Single-view.result)) c.requires.room;
-      sound = c.requires.sound;
+     
       shallow = omega (arith, ap levels e, c.requires.shallow);
       formed = c.requires.left;
       run = (subst (Formed k) is c.requires.right, turned_formed q h k ls turned o c.requires.loose);
@@ -118,12 +118,12 @@ push_after-requires-in-Single-view g t c =
 pub returns-in-Single-view : goal.returns-in-Single-view
 returns-in-Single-view g t c =
     let q = g.K.Kind.kind in
-    let h = c.args.cells.now in
+    let h = c.args.arena.now in
     let k = c.args.level in
     let ls = listed_some c.args.loose in
     let turned = listed_some c.reversed_some-in-Single-view.result in
     let x = c.in-Single-view.only in
-    let e = with_single q h k ls turned c.reversed_some-in-Single-view.ensures (tree h c.args.left.levels k c.args.left.at) _ _ _ _ _ (tree h c.args.right.levels k c.args.right.at) x c.in-Deep.ensures.is c.in-Single-view.ensures.0 in
+    let e = with_single q h k ls turned c.reversed_some-in-Single-view.ensures (rooted h k c.args.left) _ _ _ _ _ (rooted h k c.args.right) x c.in-Deep.ensures.is c.in-Single-view.ensures.0 in
     base_made (x ∷ turned) _ _ e (omega (arith, some_length c.reversed_some-in-Single-view.result)) c.push_after-in-Single-view.ensures
 
 -- both trees have both ends
@@ -133,11 +133,11 @@ group_row-grouped-requires g t c =
     let ps = listed c.reversed.result ++ (ls ++ listed c.in-Deep-view.near) in
     let e : ps ≡ onto (listed c.in-Deep.back) [] ++ (ls ++ listed c.in-Deep-view.near) = ap (λ xs. xs ++ (ls ++ listed c.in-Deep-view.near)) c.reversed.ensures in
     record {
-      room = omega (arith, row_length (record { first = Some c.reversed.result; second = c.args.loose; third = Some c.in-Deep-view.near }), joined_depth g.K.Kind.kind c.args.cells.now c.args.level c.args.left c.args.right ls c.requires.loose c.in-Deep.ensures c.in-Deep-view.ensures ps e, c.requires.room);
-      sound = c.requires.sound;
-      long = row_long g.K.Kind.kind c.args.cells.now c.args.level c.args.left c.args.right ls c.requires.loose c.in-Deep.ensures c.in-Deep-view.ensures ps e;
-      formed = row_formed g.K.Kind.kind c.args.cells.now c.args.level c.args.left c.args.right ls c.requires.loose c.in-Deep.ensures c.in-Deep-view.ensures ps e;
-      fits = omega (arith, row_counts g.K.Kind.kind c.args.cells.now c.args.level c.args.left c.args.right ls c.requires.loose c.in-Deep.ensures c.in-Deep-view.ensures ps e, c.in-Deep.ensures.counts, c.in-Deep-view.ensures.counts, c.requires.fits);
+      room = omega (arith, row_length (record { first = Some c.reversed.result; second = c.args.loose; third = Some c.in-Deep-view.near }), joined_depth g.K.Kind.kind c.args.arena.now c.args.level c.args.left c.args.right ls c.requires.loose c.in-Deep.ensures c.in-Deep-view.ensures ps e, c.requires.room);
+     
+      long = row_long g.K.Kind.kind c.args.arena.now c.args.level c.args.left c.args.right ls c.requires.loose c.in-Deep.ensures c.in-Deep-view.ensures ps e;
+      formed = row_formed g.K.Kind.kind c.args.arena.now c.args.level c.args.left c.args.right ls c.requires.loose c.in-Deep.ensures c.in-Deep-view.ensures ps e;
+      fits = omega (arith, row_counts g.K.Kind.kind c.args.arena.now c.args.level c.args.left c.args.right ls c.requires.loose c.in-Deep.ensures c.in-Deep-view.ensures ps e, c.in-Deep.ensures.counts, c.in-Deep-view.ensures.counts, c.requires.fits);
     }
 
 pub append-below-requires : goal.append-below-requires
@@ -149,11 +149,11 @@ append-below-requires g t c κs within =
     let spent = c.group_row-grouped.ensures.grown.spent in
     let gs = c.group_row-grouped.result in
     let short : length (listed gs) ≤ 4 = omega (arith, listed_length gs, gs.filled.1) in
-    let depth = joined_depth g.K.Kind.kind c.args.cells.now c.args.level c.args.left c.args.right ls c.requires.loose c.in-Deep.ensures c.in-Deep-view.ensures ps e in
-    let inner = ap levels (inner_is g.K.Kind.kind c.args.cells.now c.args.level c.args.left c.args.right ls c.requires.loose c.in-Deep.ensures c.in-Deep-view.ensures ps e gs c.group_row-grouped.ensures step) in
+    let depth = joined_depth g.K.Kind.kind c.args.arena.now c.args.level c.args.left c.args.right ls c.requires.loose c.in-Deep.ensures c.in-Deep-view.ensures ps e in
+    let inner = ap levels (inner_is g.K.Kind.kind c.args.arena.now c.args.level c.args.left c.args.right ls c.requires.loose c.in-Deep.ensures c.in-Deep-view.ensures ps e gs c.group_row-grouped.ensures step) in
     let lower = c.in-Deep.ensures.levels in
     let less : c.in-Deep.inner.levels < c.args.left.levels = omega (arith, lower) in
-    (search rules, (within.0, (within.1.0, (within.1.1.0, (within.1.1.1, (omega (arith, depth, inner, short, spent, c.requires.room), (c.group_row-grouped.ensures.grown.sound, (omega (arith, depth, inner, c.requires.shallow), (left_ready g.K.Kind.kind c.args.cells.now c.args.level c.args.left c.args.right ls c.requires.loose c.in-Deep.ensures c.in-Deep-view.ensures ps e gs c.group_row-grouped.ensures step, (groups_ready g.K.Kind.kind c.args.cells.now c.args.level c.args.left c.args.right ls c.requires.loose c.in-Deep.ensures c.in-Deep-view.ensures ps e gs c.group_row-grouped.ensures step, (right_ready g.K.Kind.kind c.args.cells.now c.args.level c.args.left c.args.right ls c.requires.loose c.in-Deep.ensures c.in-Deep-view.ensures ps e gs c.group_row-grouped.ensures step, omega (arith, inner_count g.K.Kind.kind c.args.cells.now c.args.level c.args.left c.args.right ls c.requires.loose c.in-Deep.ensures c.in-Deep-view.ensures ps e gs c.group_row-grouped.ensures step, c.requires.fits))))))))))))
+    (search rules, (within.0, (within.1.0, (within.1.1.0, (within.1.1.1, (omega (arith, depth, inner, short, spent, c.requires.room), (c.group_row-grouped.ensures.grown.sound, (omega (arith, depth, inner, c.requires.shallow), (left_ready g.K.Kind.kind c.args.arena.now c.args.level c.args.left c.args.right ls c.requires.loose c.in-Deep.ensures c.in-Deep-view.ensures ps e gs c.group_row-grouped.ensures step, (groups_ready g.K.Kind.kind c.args.arena.now c.args.level c.args.left c.args.right ls c.requires.loose c.in-Deep.ensures c.in-Deep-view.ensures ps e gs c.group_row-grouped.ensures step, (right_ready g.K.Kind.kind c.args.arena.now c.args.level c.args.left c.args.right ls c.requires.loose c.in-Deep.ensures c.in-Deep-view.ensures ps e gs c.group_row-grouped.ensures step, omega (arith, inner_count g.K.Kind.kind c.args.arena.now c.args.level c.args.left c.args.right ls c.requires.loose c.in-Deep.ensures c.in-Deep-view.ensures ps e gs c.group_row-grouped.ensures step, c.requires.fits))))))))))))
 
 pub make_deep-requires : goal.make_deep-requires
 make_deep-requires g t c =
@@ -165,16 +165,16 @@ make_deep-requires g t c =
     let more = c.append-below.ensures.grown.spent in
     let gs = c.group_row-grouped.result in
     let short : length (listed gs) ≤ 4 = omega (arith, listed_length gs, gs.filled.1) in
-    let depth = joined_depth g.K.Kind.kind c.args.cells.now c.args.level c.args.left c.args.right ls c.requires.loose c.in-Deep.ensures c.in-Deep-view.ensures ps e in
-    let below = below_depth g.K.Kind.kind c.args.cells.now c.args.level c.args.left c.args.right ls c.requires.loose c.in-Deep.ensures c.in-Deep-view.ensures ps e gs c.group_row-grouped.ensures step c.append-below.ensures in
+    let depth = joined_depth g.K.Kind.kind c.args.arena.now c.args.level c.args.left c.args.right ls c.requires.loose c.in-Deep.ensures c.in-Deep-view.ensures ps e in
+    let below = below_depth g.K.Kind.kind c.args.arena.now c.args.level c.args.left c.args.right ls c.requires.loose c.in-Deep.ensures c.in-Deep-view.ensures ps e gs c.group_row-grouped.ensures step c.append-below.ensures in
     record {
       room = omega (arith, depth, below, short, spent, more, c.requires.room);
-      sound = c.append-below.ensures.grown.sound;
+     
       shallow = omega (arith, depth, below, c.requires.shallow);
-      front = front_ready g.K.Kind.kind c.args.cells.now c.args.level c.args.left c.args.right ls c.requires.loose c.in-Deep.ensures c.in-Deep-view.ensures ps e gs c.group_row-grouped.ensures step c.append-below.ensures;
-      middle = below_ready g.K.Kind.kind c.args.cells.now c.args.level c.args.left c.args.right ls c.requires.loose c.in-Deep.ensures c.in-Deep-view.ensures ps e gs c.group_row-grouped.ensures step c.append-below.ensures;
-      back = back_ready g.K.Kind.kind c.args.cells.now c.args.level c.args.left c.args.right ls c.requires.loose c.in-Deep.ensures c.in-Deep-view.ensures ps e gs c.group_row-grouped.ensures step c.append-below.ensures;
-      fits = omega (arith, joined_count g.K.Kind.kind c.args.cells.now c.args.level c.args.left c.args.right ls c.requires.loose c.in-Deep.ensures c.in-Deep-view.ensures ps e gs c.group_row-grouped.ensures step c.append-below.ensures, c.requires.fits);
+      front = front_ready g.K.Kind.kind c.args.arena.now c.args.level c.args.left c.args.right ls c.requires.loose c.in-Deep.ensures c.in-Deep-view.ensures ps e gs c.group_row-grouped.ensures step c.append-below.ensures;
+      middle = below_ready g.K.Kind.kind c.args.arena.now c.args.level c.args.left c.args.right ls c.requires.loose c.in-Deep.ensures c.in-Deep-view.ensures ps e gs c.group_row-grouped.ensures step c.append-below.ensures;
+      back = back_ready g.K.Kind.kind c.args.arena.now c.args.level c.args.left c.args.right ls c.requires.loose c.in-Deep.ensures c.in-Deep-view.ensures ps e gs c.group_row-grouped.ensures step c.append-below.ensures;
+      fits = omega (arith, joined_count g.K.Kind.kind c.args.arena.now c.args.level c.args.left c.args.right ls c.requires.loose c.in-Deep.ensures c.in-Deep-view.ensures ps e gs c.group_row-grouped.ensures step c.append-below.ensures, c.requires.fits);
     }
 
 pub returns-in-Deep-view : goal.returns-in-Deep-view
@@ -184,4 +184,4 @@ returns-in-Deep-view g t c =
     let e : ps ≡ onto (listed c.in-Deep.back) [] ++ (ls ++ listed c.in-Deep-view.near) = ap (λ xs. xs ++ (ls ++ listed c.in-Deep-view.near)) c.reversed.ensures in
     let step : suc c.args.level ≡ c.args.level + 1 = omega arith in
     let short = some_length c.args.loose in
-    appended g.K.Kind.kind c.args.cells.now c.args.level c.args.left c.args.right ls c.requires.loose c.in-Deep.ensures c.in-Deep-view.ensures ps e c.group_row-grouped.result c.group_row-grouped.ensures step c.append-below.ensures c.requires.left c.requires.right short c.make_deep.ensures
+    appended g.K.Kind.kind c.args.arena.now c.args.level c.args.left c.args.right ls c.requires.loose c.in-Deep.ensures c.in-Deep-view.ensures ps e c.group_row-grouped.result c.group_row-grouped.ensures step c.append-below.ensures c.requires.left c.requires.right short c.make_deep.ensures

@@ -6,23 +6,23 @@ use Rattle.joins.proofs.append.push_after.Goals as goal
 
 pub push_run-more-requires : goal.push_run-more-requires
 push_run-more-requires g c = record {
-  room = others_room g.K.Kind.kind (end c.args.side) c.args.cells.now c.args.level c.args.root c.requires.formed (c.args.finger ∷ listed_some c.args.others) c.requires.run c.args.finger (listed_some c.args.others) refl _ c.requires.room;
-  sound = c.requires.sound;
-  shallow = omega (arith, others_levels g.K.Kind.kind (end c.args.side) c.args.cells.now c.args.level c.args.root c.requires.formed (c.args.finger ∷ listed_some c.args.others) c.requires.run c.args.finger (listed_some c.args.others) refl, c.requires.shallow);
+  room = others_room g.K.Kind.kind (end c.args.side) c.args.arena.now c.args.level c.args.root c.requires.formed (c.args.finger ∷ listed_some c.args.others) c.requires.run c.args.finger (listed_some c.args.others) refl _ c.requires.room;
+ 
+  shallow = omega (arith, others_levels g.K.Kind.kind (end c.args.side) c.args.arena.now c.args.level c.args.root c.requires.formed (c.args.finger ∷ listed_some c.args.others) c.requires.run c.args.finger (listed_some c.args.others) refl, c.requires.shallow);
   formed = c.requires.formed;
-  run = others_ready g.K.Kind.kind (end c.args.side) c.args.cells.now c.args.level c.args.root c.requires.formed (c.args.finger ∷ listed_some c.args.others) c.requires.run c.args.finger (listed_some c.args.others) refl;
-  fits = omega (arith, others_count g.K.Kind.kind (end c.args.side) c.args.cells.now c.args.level c.args.root c.requires.formed (c.args.finger ∷ listed_some c.args.others) c.requires.run c.args.finger (listed_some c.args.others) refl, c.requires.fits);
+  run = others_ready g.K.Kind.kind (end c.args.side) c.args.arena.now c.args.level c.args.root c.requires.formed (c.args.finger ∷ listed_some c.args.others) c.requires.run c.args.finger (listed_some c.args.others) refl;
+  fits = omega (arith, others_count g.K.Kind.kind (end c.args.side) c.args.arena.now c.args.level c.args.root c.requires.formed (c.args.finger ∷ listed_some c.args.others) c.requires.run c.args.finger (listed_some c.args.others) refl, c.requires.fits);
 }
 
 pub push-requires : goal.push-requires
 push-requires g c = record {
-  room = next_room g.K.Kind.kind (end c.args.side) c.args.cells.now c.args.level c.args.root c.requires.formed (c.args.finger ∷ listed_some c.args.others) c.requires.run c.args.finger (listed_some c.args.others) refl c.push_run-more.ensures c.requires.room;
-  sound = c.push_run-more.ensures.grown.sound;
-  shallow = omega (arith, others_depth g.K.Kind.kind (end c.args.side) c.args.cells.now c.args.level c.args.root c.requires.formed (c.args.finger ∷ listed_some c.args.others) c.requires.run c.args.finger (listed_some c.args.others) refl c.push_run-more.ensures, others_levels g.K.Kind.kind (end c.args.side) c.args.cells.now c.args.level c.args.root c.requires.formed (c.args.finger ∷ listed_some c.args.others) c.requires.run c.args.finger (listed_some c.args.others) refl, c.requires.shallow);
-  formed = next_formed g.K.Kind.kind (end c.args.side) c.args.cells.now c.args.level c.args.root c.requires.formed (c.args.finger ∷ listed_some c.args.others) c.requires.run c.args.finger (listed_some c.args.others) refl c.push_run-more.ensures;
-  finger = first_ready g.K.Kind.kind (end c.args.side) c.args.cells.now c.args.level c.args.root c.requires.formed (c.args.finger ∷ listed_some c.args.others) c.requires.run c.args.finger (listed_some c.args.others) refl c.push_run-more.ensures;
-  fits = omega (arith, next_count g.K.Kind.kind (end c.args.side) c.args.cells.now c.args.level c.args.root c.requires.formed (c.args.finger ∷ listed_some c.args.others) c.requires.run c.args.finger (listed_some c.args.others) refl c.push_run-more.ensures, c.requires.fits);
+  room = next_room g.K.Kind.kind (end c.args.side) c.args.arena.now c.args.level c.args.root c.requires.formed (c.args.finger ∷ listed_some c.args.others) c.requires.run c.args.finger (listed_some c.args.others) refl c.push_run-more.ensures c.requires.room;
+ 
+  shallow = omega (arith, others_depth g.K.Kind.kind (end c.args.side) c.args.arena.now c.args.level c.args.root c.requires.formed (c.args.finger ∷ listed_some c.args.others) c.requires.run c.args.finger (listed_some c.args.others) refl c.push_run-more.ensures, others_levels g.K.Kind.kind (end c.args.side) c.args.arena.now c.args.level c.args.root c.requires.formed (c.args.finger ∷ listed_some c.args.others) c.requires.run c.args.finger (listed_some c.args.others) refl, c.requires.shallow);
+  formed = next_formed g.K.Kind.kind (end c.args.side) c.args.arena.now c.args.level c.args.root c.requires.formed (c.args.finger ∷ listed_some c.args.others) c.requires.run c.args.finger (listed_some c.args.others) refl c.push_run-more.ensures;
+  finger = first_ready g.K.Kind.kind (end c.args.side) c.args.arena.now c.args.level c.args.root c.requires.formed (c.args.finger ∷ listed_some c.args.others) c.requires.run c.args.finger (listed_some c.args.others) refl c.push_run-more.ensures;
+  fits = omega (arith, next_count g.K.Kind.kind (end c.args.side) c.args.arena.now c.args.level c.args.root c.requires.formed (c.args.finger ∷ listed_some c.args.others) c.requires.run c.args.finger (listed_some c.args.others) refl c.push_run-more.ensures, c.requires.fits);
 }
 
 pub returns : goal.returns
-returns g c = pushed_all g.K.Kind.kind (end c.args.side) c.args.cells.now c.args.level c.args.root c.requires.formed (c.args.finger ∷ listed_some c.args.others) c.requires.run c.args.finger (listed_some c.args.others) refl c.push_run-more.ensures c.push.ensures
+returns g c = pushed_all g.K.Kind.kind (end c.args.side) c.args.arena.now c.args.level c.args.root c.requires.formed (c.args.finger ∷ listed_some c.args.others) c.requires.run c.args.finger (listed_some c.args.others) refl c.push_run-more.ensures c.push.ensures

@@ -6,14 +6,14 @@ use Rattle.lists.proofs.Pushes.{push_room, push_shallow, root_ready, item_ready,
 use Rattle.lists.proofs.sides.push.Goals as goal
 
 pub take_cell-finger-requires : goal.take_cell-finger-requires
-take_cell-finger-requires g c = record { used = refl; some = omega (arith, some_most (length (list_at c.args.cells.now c.args.root)), c.requires.room); sound = c.requires.sound }
+take_cell-finger-requires g c = record { used = refl; some = omega (arith, some_most (length (list_at c.args.arena.now c.args.root)), c.requires.room); sound = c.requires.sound }
 
 pub push-requires : goal.push-requires
 push-requires g c =
     let t = c.take_cell-finger.ensures in
     record {
       room = push_room g.K.Kind.kind (end c.args.side) c.args.item c.args.root c.requires.whole c.requires.fits t c.requires.room;
-      sound = t.grown.sound;
+     
       shallow = omega (arith, push_shallow g.K.Kind.kind (end c.args.side) c.args.item c.args.root c.requires.whole c.requires.fits t);
       formed = root_ready g.K.Kind.kind (end c.args.side) c.args.item c.args.root c.requires.whole c.requires.fits t;
       finger = item_ready g.K.Kind.kind (end c.args.side) c.args.item c.args.root c.requires.whole c.requires.fits t;

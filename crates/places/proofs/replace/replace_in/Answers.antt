@@ -10,14 +10,14 @@ cut_digit-cut-requires g c = record { few = omega (arith, c.args.digit.filled.1)
 pub replace_node-finger-requires : goal.replace_node-finger-requires
 replace_node-finger-requires g c = record {
   room = c.requires.room;
-  sound = c.requires.sound;
-  formed = (cut_known c.args.cells.now c.args.level c.args.position (listed c.args.digit) c.requires.formed c.requires.within c.cut_digit-cut.result c.cut_digit-cut.ensures).here;
-  fits = omega (arith, cut_part g.K.Kind.kind c.args.item c.args.cells.now c.args.level (listed c.args.digit) c.requires.formed c.args.position c.requires.within c.cut_digit-cut.result c.cut_digit-cut.ensures, c.requires.fits);
-  within = cut_within c.args.cells.now c.args.level c.args.position (listed c.args.digit) c.requires.formed c.requires.within c.cut_digit-cut.result c.cut_digit-cut.ensures;
+ 
+  formed = (cut_known c.args.arena.now c.args.level c.args.position (listed c.args.digit) c.requires.formed c.requires.within c.cut_digit-cut.result c.cut_digit-cut.ensures).here;
+  fits = omega (arith, cut_part g.K.Kind.kind c.args.item c.args.arena.now c.args.level (listed c.args.digit) c.requires.formed c.args.position c.requires.within c.cut_digit-cut.result c.cut_digit-cut.ensures, c.requires.fits);
+  within = cut_within c.args.arena.now c.args.level c.args.position (listed c.args.digit) c.requires.formed c.requires.within c.cut_digit-cut.result c.cut_digit-cut.ensures;
 }
 
 pub with_finger-requires : goal.with_finger-requires
-with_finger-requires g c = omega (arith, index_within g.K.Kind.kind c.args.item c.args.cells.now c.args.level (listed c.args.digit) c.requires.formed c.args.position c.requires.within c.cut_digit-cut.result c.cut_digit-cut.ensures, c.many.ensures)
+with_finger-requires g c = omega (arith, index_within g.K.Kind.kind c.args.item c.args.arena.now c.args.level (listed c.args.digit) c.requires.formed c.args.position c.requires.within c.cut_digit-cut.result c.cut_digit-cut.ensures, c.many.ensures)
 
 pub returns : goal.returns
-returns g c = run_made g.K.Kind.kind c.args.item c.args.cells.now c.args.level (listed c.args.digit) c.requires.formed c.args.position c.requires.within c.cut_digit-cut.result c.cut_digit-cut.ensures c.replace_node-finger.result c.replace_node-finger.ensures c.many.result c.many.ensures (listed c.with_finger.result) c.with_finger.ensures
+returns g c = run_made g.K.Kind.kind c.args.item c.args.arena.now c.args.level (listed c.args.digit) c.requires.formed c.args.position c.requires.within c.cut_digit-cut.result c.cut_digit-cut.ensures c.replace_node-finger.result c.replace_node-finger.ensures c.many.result c.many.ensures (listed c.with_finger.result) c.with_finger.ensures

@@ -9,5 +9,5 @@ use Rattle.splits.proofs.some.tree_some.Goals as goal
 pub returns-in-None : goal.returns-in-None
 returns-in-None g c = record {
   grown = grown_none 1 c.requires.sound;
-  reads = tree_none c.args.cells.now 0 c.args.level 0 refl ∙ sym (ap (λ run. tree_of g.K.Kind.kind (end c.args.side) (nodes c.args.cells.now c.args.level (listed_some run))) c.in-None.is);
+  reads = tree_none c.args.arena.now 0 c.args.level 0 refl ∙ sym (ap (λ run. tree_of g.K.Kind.kind (end c.args.side) (nodes c.args.arena.now c.args.level (listed_some run))) c.in-None.is);
 }

@@ -7,16 +7,16 @@ use Rattle.splits.proofs.split.halve_below.Goals as goal
 
 pub cut_digit-cut-requires : goal.cut_digit-cut-requires
 cut_digit-cut-requires g c =
-    let n = parts_count c.args.cells.now c.args.level (suc c.args.level) c.args.halves.finger refl c.requires.here _ c.fingers_of-parts.ensures in
+    let n = parts_count c.args.arena.now c.args.level (suc c.args.level) c.args.halves.finger refl c.requires.here _ c.fingers_of-parts.ensures in
     record {
       few = omega (arith, c.fingers_of-parts.result.filled.1);
-      formed = parts_ready c.args.cells.now c.args.level (suc c.args.level) c.args.halves.finger refl c.requires.here _ c.fingers_of-parts.ensures;
+      formed = parts_ready c.args.arena.now c.args.level (suc c.args.level) c.args.halves.finger refl c.requires.here _ c.fingers_of-parts.ensures;
       within = omega (arith, n, c.requires.within);
     }
 
 pub halve_middle-requires : goal.halve_middle-requires
 halve_middle-requires g c =
-    let h = c.args.cells.now in
+    let h = c.args.arena.now in
     let k = c.args.level in
     let ps = listed c.fingers_of-parts.result in
     let v = parts_ready h k (suc k) c.args.halves.finger refl c.requires.here ps c.fingers_of-parts.ensures in
@@ -25,7 +25,7 @@ halve_middle-requires g c =
     let s = cut_sums h k c.args.halves.offset ps v (omega (arith, n, c.requires.within)) c.cut_digit-cut.result c.cut_digit-cut.ensures in
     record {
       room = c.requires.room;
-      sound = c.requires.sound;
+     
       shallow = c.requires.shallow;
       before = w.before;
       here = w.here;
@@ -39,4 +39,4 @@ halve_middle-requires g c =
 
 pub returns : goal.returns
 returns g c =
-    parts_as (c.args.halves.left.levels + c.args.halves.right.levels + 2) _ c.halve_middle.ensures (middle_is g.K.Kind.kind c.args.cells.now c.args.level (listed c.args.front) (listed c.args.back) c.args.halves (listed c.fingers_of-parts.result) c.fingers_of-parts.ensures c.cut_digit-cut.result c.cut_digit-cut.ensures) (omega arith)
+    parts_as (c.args.halves.left.levels + c.args.halves.right.levels + 2) _ c.halve_middle.ensures (middle_is g.K.Kind.kind c.args.arena.now c.args.level (listed c.args.front) (listed c.args.back) c.args.halves (listed c.fingers_of-parts.result) c.fingers_of-parts.ensures c.cut_digit-cut.result c.cut_digit-cut.ensures) (omega arith)

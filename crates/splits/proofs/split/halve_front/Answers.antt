@@ -12,7 +12,7 @@ trim-right-requires g c =
     let spent = c.tree_some-left.ensures.grown.spent in
     record {
       room = omega (arith, c.requires.room);
-      sound = c.tree_some-left.ensures.grown.sound;
+     
       shallow = c.requires.shallow;
       near = near_ready g.K.Kind.kind front c.tree_some-left.ensures.grown.extends c.args.level (listed_some c.args.cut.after) c.args.middle (listed c.args.back) c.requires.after c.requires.middle c.requires.back;
       middle = middle_ready g.K.Kind.kind front c.tree_some-left.ensures.grown.extends c.args.level (listed_some c.args.cut.after) c.args.middle (listed c.args.back) c.requires.after c.requires.middle c.requires.back;
@@ -23,4 +23,4 @@ trim-right-requires g c =
 pub returns : goal.returns
 returns g c =
     let q = g.K.Kind.kind in
-    two_built (c.args.middle.levels + 2) c.args.cut.finger c.args.cut.offset c.tree_some-left.ensures (tree_of_formed q back c.args.level (nodes c.args.cells.now c.args.level (listed_some c.args.cut.before)) c.requires.before).0 (trim_kept g.K.Kind.kind front c.tree_some-left.ensures.grown.extends c.args.level (listed_some c.args.cut.after) c.args.middle (listed c.args.back) c.requires.after c.requires.middle c.requires.back c.trim-right.ensures) c.requires.here (omega arith)
+    two_built (c.args.middle.levels + 2) c.args.cut.finger c.args.cut.offset c.tree_some-left.ensures (tree_of_formed q back c.args.level (nodes c.args.arena.now c.args.level (listed_some c.args.cut.before)) c.requires.before).0 (trim_kept g.K.Kind.kind front c.tree_some-left.ensures.grown.extends c.args.level (listed_some c.args.cut.after) c.args.middle (listed c.args.back) c.requires.after c.requires.middle c.requires.back c.trim-right.ensures) c.requires.here (omega arith)

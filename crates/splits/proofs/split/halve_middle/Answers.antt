@@ -1,7 +1,7 @@
 use Rattle.std.proofs.Common.{suc, ◌+◌, arith}
 use Rattle.model.specs.Tree.{front, back}
 use Rattle.model.proofs.Splitting.{trim_well}
-use Rattle.cells.specs.Cells.{nodes, tree}
+use Rattle.cells.specs.Cells.{nodes, tree, rooted}
 use Rattle.cells.specs.Fingers.{listed}
 use Rattle.cells.specs.Fingers.{listed_some}
 use Rattle.cells.proofs.Fours.{some_length}
@@ -14,7 +14,7 @@ trim-after-requires g c =
     let spent = c.trim-before.ensures.grown.spent in
     record {
       room = omega (arith, c.requires.room);
-      sound = c.trim-before.ensures.grown.sound;
+     
       shallow = omega (arith, c.requires.shallow);
       near = near_ready g.K.Kind.kind front c.trim-before.ensures.grown.extends c.args.level (listed_some c.args.cut.after) c.args.right (listed c.args.back) c.requires.after c.requires.right c.requires.back;
       middle = middle_ready g.K.Kind.kind front c.trim-before.ensures.grown.extends c.args.level (listed_some c.args.cut.after) c.args.right (listed c.args.back) c.requires.after c.requires.right c.requires.back;
@@ -25,8 +25,8 @@ trim-after-requires g c =
 pub returns : goal.returns
 returns g c =
     let q = g.K.Kind.kind in
-    let h = c.args.cells.now in
+    let h = c.args.arena.now in
     let k = c.args.level in
     let short = some_length c.args.cut.before in
-    let w = (trim_well q back k (nodes h k (listed_some c.args.cut.before)) (tree h c.args.left.levels (suc k) c.args.left.at) (nodes h k (listed c.args.front)) c.requires.before (simp length-map short) c.requires.left (digit_of h k c.args.front c.requires.front)).0 in
+    let w = (trim_well q back k (nodes h k (listed_some c.args.cut.before)) (rooted h (suc k) c.args.left) (nodes h k (listed c.args.front)) c.requires.before (simp length-map short) c.requires.left (digit_of h k c.args.front c.requires.front)).0 in
     two_built (c.args.left.levels + c.args.right.levels + 2) c.args.cut.finger c.args.cut.offset c.trim-before.ensures w (trim_kept g.K.Kind.kind front c.trim-before.ensures.grown.extends c.args.level (listed_some c.args.cut.after) c.args.right (listed c.args.back) c.requires.after c.requires.right c.requires.back c.trim-after.ensures) c.requires.here (omega arith)
