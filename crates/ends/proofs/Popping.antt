@@ -10,7 +10,7 @@ use Rattle.model.proofs.Forms.{count_is, count_node_is, length_along}
 use Rattle.model.proofs.Popping.{Came, popped}
 use Rattle.cells.specs.Cells.{node, nodes, tree, rooted}
 use Rattle.cells.specs.Fingers.{listed}
-use Rattle.cells.specs.Chain.{Grown, Sound}
+use Rattle.cells.specs.Chain.{Grown}
 use Rattle.cells.specs.Made.{MadeTree, deep_of, SeenDeep}
 use Rattle.cells.specs.declared.cell.Cell.{Cell}
 use Rattle.cells.specs.declared.cell.Root.{Root}
@@ -59,19 +59,16 @@ module _ {I T : Type 0} (h : List (Cell I T)) (k : ℕ) where
   count_append (p ∷ ps) rs = omega (arith, count_append ps rs)
 
 module _ {I T : Type 0} where
-  pub grown_none : {h : List (Cell I T)} (c : ℕ) → Sound h f → Grown h h c
-  grown_none c u = record { extends = record { long = refl; kept = λ p used. refl }; spent = omega arith }
-
   -- what came of a tree m
-  came_well : (s : Side) (h : List (Cell I T)) (k : ℕ) (m : Tree I T) (r : Option Popped) → Formed k m → Came k s m (popped_of h k r) → PoppedWell h k r × ((popped_levels r ≤ levels m) × (count_popped (popped_of h k r) ≤ count m))
+  came_well : (s : Side) (h : List (Cell I T)) (k : ℕ) (m : Tree I T) (r : Option (Popped ℕ)) → Formed k m → Came k s m (popped_of h k r) → PoppedWell h k r × ((popped_levels r ≤ levels m) × (count_popped (popped_of h k r) ≤ count m))
   came_well s h k m None w c = (tt, (omega arith, omega arith))
   came_well s h k m (Some x) w c =
       let l = levels_read h x.rest.levels k x.rest.at c.1.0 in
-      let n = count_is k m w ∙ ap length c.1.1.0 ∙ length_along s (items_node (node h k x.finger)) (items (rooted h k x.rest)) in
+      let n = count_is k m w ∙ ap length c.1.1.0 ∙ length_along s (items_node (node h k x.taken)) (items (rooted h k x.rest)) in
       ((c.0, c.1.0), (elim c.1.1.1 [ inl e ↦ omega arith | inr e ↦ omega arith ], omega (arith, n, count_node_is k _ c.0, count_is k _ c.1.0)))
 
 -- the middle m of a level whose fingers at the side are gone
-module _ {I T Q : Type 0} (q : Algebra I T Q) (s : Side) (h : List (Cell I T)) (k : ℕ) (m : Root) (w : Formed (suc k) (rooted h (suc k) m)) (far : List ℕ) (v : Each k (nodes h k far)) {h₁ : List (Cell I T)} {c k' : ℕ} {r : Option Popped} (i : suc k ≡ k') (below : MadePop h h₁ c k' r (pop q s (tree h m.levels k' m.at))) where
+module _ {I T Q : Type 0} (q : Algebra I T Q) (s : Side) (h : List (Cell I T)) (k : ℕ) (m : Root) (w : Formed (suc k) (rooted h (suc k) m)) (far : List ℕ) (v : Each k (nodes h k far)) {h₁ : List (Cell I T)} {c k' : ℕ} {r : Option (Popped ℕ)} (i : suc k ≡ k') (below : MadePop h h₁ c k' r (pop q s (tree h m.levels k' m.at))) where
   below_reads : popped_of h₁ (suc k) r ≡ pop q s (rooted h (suc k) m)
   below_reads = subst (λ j. popped_of h₁ j r ≡ pop q s (rooted h j m)) (sym i) below.reads
 
@@ -107,7 +104,7 @@ module _ {I T Q : Type 0} (q : Algebra I T Q) (s : Side) (h : List (Cell I T)) (
   first_formed : Each k (nodes h k (a ∷ others))
   first_formed = subst (λ ps. Each k (nodes h k ps)) split seen.near_formed
 
-  pub pop_first : {h' : List (Cell I T)} {o : Root} → MadeTree h h' root.levels k o (trim q s (nodes h k others) (rooted h (suc k) m) (nodes h k (listed far)) (pop q s (rooted h (suc k) m))) → MadePop h h' root.levels k (Some (record { finger = a; rest = o })) (pop q s (rooted h k root))
+  pub pop_first : {h' : List (Cell I T)} {o : Root} → MadeTree h h' root.levels k o (trim q s (nodes h k others) (rooted h (suc k) m) (nodes h k (listed far)) (pop q s (rooted h (suc k) m))) → MadePop h h' root.levels k (Some (record { taken = a; rest = o })) (pop q s (rooted h k root))
   pop_first u = record { grown = u.grown; reads = rw (keep_node u.grown.extends k a first_formed.0, u.reads) (sym popped_is) }
 
   pub trimmed_some : {h' : List (Cell I T)} {o : Root} → 1 ≤ length others → MadeTree h h' 1 k o (deep_at q s (nodes h k others) (rooted h (suc k) m) (nodes h k (listed far))) → MadeTree h h' root.levels k o (trim q s (nodes h k others) (rooted h (suc k) m) (nodes h k (listed far)) (pop q s (rooted h (suc k) m)))
@@ -118,6 +115,6 @@ module _ {I T Q : Type 0} (q : Algebra I T Q) (s : Side) (h : List (Cell I T)) (
 
 -- fingers that are left at the side
 pub trimmed_near : {I T : Type 0} {Q : Type 0} (q : Algebra I T Q) (s : Side) {h h' : List (Cell I T)} {k : ℕ} {o : Root} (near : List ℕ) (m : Tree I T) (far : List (Node I T)) (e : ℕ) → 1 ≤ length near → 1 ≤ e → MadeTree h h' 1 k o (deep_at q s (nodes h k near) m far) → MadeTree h h' e k o (trim q s (nodes h k near) m far (pop q s m))
-trimmed_near q s {h} {h'} {f} {f'} {k} near m far e l z u =
+trimmed_near q s {h} {h'} {k} near m far e l z u =
     let some : 1 ≤ length (nodes h k near) = simp length-map l in
     made_as e _ u (trim_some q s (nodes h k near) m far (pop q s m) some) z

@@ -60,7 +60,7 @@ module _ {I T Q : Type 0} (q : Algebra I T Q) (s : Side) (h : List (Cell I T)) (
   push_some = some_levels q s k (node h k x) (rooted h k root) w
 
   settled : {h' : List (Cell I T)} {c : ℕ} {r : Root} {u : Tree I T} → MadeTree h h' c k r u → u ≡ push q s (node h k x) (rooted h k root) → c ≤ 2 * levels u - 1 → MadeTree h h' (2 * r.levels - 1) k r (push q s (node h k x) (rooted h k root))
-  settled {h'} {f} {f'} {c} {r} {u} m e l =
+  settled {h'} {c} {r} {u} m e l =
       let z : c ≤ c = omega arith in
       let n = made_levels (made_as c _ m e z) (push_formed q s k _ _ v w) in
       let o = ap levels e in
@@ -156,7 +156,7 @@ module _ {I T Q : Type 0} (q : Algebra I T Q) (s : Side) (h : List (Cell I T)) (
           level_count = rw (near_kept, far_kept, below_reads) (omega (arith, push_count q s (suc k) (three_at q s (node h k b) (node h k c) (node h k d)) (rooted h (suc k) m) seen.middle_formed, count_three_at q s (node h k b) (node h k c) (node h k d), fingers_count))
 
           pub push_fuller : {h₃ : List (Cell I T)} {o : Root} → MadeTree h₂ h₃ 1 k o (deep_at q s (nodes h₂ k two) (rooted h₂ (suc k) r) (nodes h₂ k (listed far))) → MadeTree h h₃ (2 * o.levels - 1) k o (push q s (node h k x) (rooted h k root))
-          push_fuller {h₃} {f₃} {o} u =
+          push_fuller {h₃} {o} u =
               let n = levels_deep_at q s (nodes h₂ k two) (rooted h₂ (suc k) r) (nodes h₂ k (listed far)) in
               let y = levels_read h₂ r.levels (suc k) r.at below_ready in
               let one = below_some in

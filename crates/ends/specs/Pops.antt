@@ -8,7 +8,7 @@ use Rattle.cells.specs.Chain.{Grown}
 use Rattle.cells.specs.declared.cell.Cell.{Cell}
 use Rattle.ends.specs.declared.pop.Popped.{Popped}
 
-abbrev pub popped_levels : Option Popped → ℕ
+abbrev pub popped_levels : Option (Popped ℕ) → ℕ
 popped_levels None = 0
 popped_levels (Some x) = x.rest.levels
 
@@ -17,14 +17,14 @@ count_popped empty = 0
 count_popped (got x rest) = count_node x + count rest
 
 module _ {I T : Type 0} where
-  abbrev pub popped_of : List (Cell I T) → ℕ → Option Popped → Taken I T
+  abbrev pub popped_of : List (Cell I T) → ℕ → Option (Popped ℕ) → Taken I T
   popped_of h k None = empty
-  popped_of h k (Some x) = got (node h k x.finger) (rooted h k x.rest)
+  popped_of h k (Some x) = got (node h k x.taken) (rooted h k x.rest)
 
-  abbrev pub PoppedWell : List (Cell I T) → ℕ → Option Popped → Type 0
+  abbrev pub PoppedWell : List (Cell I T) → ℕ → Option (Popped ℕ) → Type 0
   PoppedWell h k None = Unit {0}
-  PoppedWell h k (Some x) = FormedNode k (node h k x.finger) × Formed k (rooted h k x.rest)
+  PoppedWell h k (Some x) = FormedNode k (node h k x.taken) × Formed k (rooted h k x.rest)
 
-  pub record MadePop (h h' : List (Cell I T)) (cost k : ℕ) (r : Option Popped) (p : Taken I T) : Type 0 where
+  pub record MadePop (h h' : List (Cell I T)) (cost k : ℕ) (r : Option (Popped ℕ)) (p : Taken I T) : Type 0 where
     pub grown : Grown h h' cost
     pub reads : popped_of h' k r ≡ p

@@ -13,20 +13,18 @@ ghost use Rattle.cells.specs.Made.{MadeTree};
 ghost use Rattle.ends.specs.Pops.{popped_of, PoppedWell, popped_levels, count_popped, MadePop};
 ghost use Rattle.cells.specs.Fingers.{listed_some};
 
-use cells::build::{make_deep, make_single};
 use cells::arena::Arena;
-use cells::cell::{Root};
-use cells::side::Side;
-use cells::digits;
+use cells::build::{make_deep, make_single};
+use cells::cell::{EMPTY, Root};
 use cells::fingers::Digit;
-
+use cells::side::Side;
 use cells::view::View;
 use kinds::Kind;
 
-// The finger that was at an end, and the tree without it.
+/// What was at an end of a tree, and the tree without it.
 #[derive(Clone, Copy)]
-pub struct Popped {
-    pub finger: u32,
+pub struct Popped<A> {
+    pub taken: A,
     pub rest: Root,
 }
 
@@ -43,19 +41,11 @@ pub fn tree_from<K: Kind>(
     requires fits { count_run (nodes arena.old level (listed digit)) < 2 ^ 32 }
     ensures { MadeTree arena.old arena.new 1 level result (tree_of K.Kind.kind (end side) (nodes arena.old level (listed digit))) }
 {
-    let last = digits::finger(digit, digit.count - 1);
-    if digit.count == 1 {
-        return make_single::<K>(arena, level, last);
+    let (others, last) = digit.split_last();
+    match others {
+        None => make_single::<K>(arena, level, last),
+        Some(near) => make_deep::<K>(arena, level, side, near, EMPTY, Digit::of([last])),
     }
-    let near = digits::init(digit);
-    let far = Digit::of([last]);
-    make_deep::<K>(arena,
-        level,
-        side,
-        near,
-        EMPTY,
-        far,
-    )
 }
 
 // A level whose fingers at the side are gone, where `below` came of a pop of its middle.
@@ -63,7 +53,7 @@ pub fn refill<K: Kind>(
     arena: &mut Arena<'_, K::Item, K::Total>,
     level: u32,
     side: Side,
-    below: Option<Popped>,
+    below: Option<Popped<u32>>,
     far: Digit,
 ) -> Root
     requires room { 0 < free_cells arena.old }
@@ -76,18 +66,19 @@ pub fn refill<K: Kind>(
     match below {
         None => tree_from::<K>(arena, level, side.opposite(), far),
         Some(inner) => {
-            let near = arena.parts(level, side, inner.finger);
+            let near = arena.parts(level, side, inner.taken);
             make_deep::<K>(arena, level, side, near, inner.rest, far)
         }
     }
 }
 
+// The finger at a side, and the tree without it, if there is one.
 pub fn pop<K: Kind>(
     arena: &mut Arena<'_, K::Item, K::Total>,
     level: u32,
     side: Side,
     root: Root,
-) -> Option<Popped>
+) -> Option<Popped<u32>>
     requires room { root.levels ≤ free_cells arena.old }
     requires shallow { level + root.levels < 64 }
     requires formed { Formed level (rooted arena.old level root) }
@@ -97,22 +88,22 @@ pub fn pop<K: Kind>(
     match arena.view(level, side, root) {
         View::Empty => None,
         View::Single { finger } => Some(Popped {
-            finger,
+            taken: finger,
             rest: EMPTY,
         }),
         View::Deep { near, middle, far } => {
-            let finger = digits::finger(near, 0);
-            match digits::rest(near) {
-                Some(others) => {
-                    let rest = make_deep::<K>(arena, level, side, others, middle, far);
-                    Some(Popped { finger, rest })
-                }
+            let (finger, others) = near.split_first();
+            let rest = match others {
+                Some(near) => make_deep::<K>(arena, level, side, near, middle, far),
                 None => {
                     let below = pop::<K>(arena, level + 1, side, middle);
-                    let rest = refill::<K>(arena, level, side, below, far);
-                    Some(Popped { finger, rest })
+                    refill::<K>(arena, level, side, below, far)
                 }
-            }
+            };
+            Some(Popped {
+                taken: finger,
+                rest,
+            })
         }
     }
 }

@@ -3,10 +3,11 @@ use Rattle.model.specs.Tree.{count}
 use Rattle.model.specs.Forms.{Formed}
 use Rattle.model.specs.Ends.{pop}
 use Rattle.cells.specs.Cells.{end, tree, rooted}
-use Rattle.cells.specs.Fingers.{listed}
+use Rattle.cells.specs.Fingers.{listed, listed_some}
 use Rattle.cells.proofs.Opened.{tree_none}
+use Rattle.cells.proofs.Frames.{grown_none}
 use Rattle.cells.proofs.Fours.{listed_length}
-use Rattle.ends.proofs.Popping.{grown_none, below_well, below_shallow, far_ready, refill_count, emptied, pop_first, trimmed_some}
+use Rattle.ends.proofs.Popping.{below_well, below_shallow, far_ready, refill_count, emptied, pop_first, trimmed_some}
 use Rattle.ends.proofs.pop.+pop.Goals as goal
 
 pub pop-below-requires : goal.pop-below-requires
@@ -28,11 +29,8 @@ pop-below-requires g t c κs within =
               (
                 omega (arith, c.requires.room),
                 (
-                  c.requires.sound,
-                  (
-                    omega (arith, c.requires.shallow),
-                    (subst (λ j. Formed j (rooted c.args.arena.now j c.in-Deep.middle)) step seen.middle_formed, omega (arith, n, seen.counts, c.requires.fits)),
-                  ),
+                  omega (arith, c.requires.shallow),
+                  (subst (λ j. Formed j (rooted c.args.arena.now j c.in-Deep.middle)) step seen.middle_formed, omega (arith, n, seen.counts, c.requires.fits)),
                 ),
               ),
             ),
@@ -49,7 +47,6 @@ refill-rest-requires g t c =
     let spent = c.pop-below.ensures.grown.spent in
     record {
       room = omega (arith, c.requires.room);
-     
       shallow = omega (arith, below_shallow g.K.Kind.kind (end c.args.side) c.args.arena.now c.args.level c.in-Deep.middle seen.middle_formed (listed c.in-Deep.far) seen.far_formed step c.pop-below.ensures, c.requires.shallow);
       below = below_well g.K.Kind.kind (end c.args.side) c.args.arena.now c.args.level c.in-Deep.middle seen.middle_formed (listed c.in-Deep.far) seen.far_formed step c.pop-below.ensures;
       far = far_ready g.K.Kind.kind (end c.args.side) c.args.arena.now c.args.level c.in-Deep.middle seen.middle_formed (listed c.in-Deep.far) seen.far_formed step c.pop-below.ensures;
@@ -57,25 +54,28 @@ refill-rest-requires g t c =
     }
 
 pub returns-in-Empty : goal.returns-in-Empty
-returns-in-Empty g t c = record { grown = grown_none c.args.root.levels c.requires.sound; reads = sym (ap (pop g.K.Kind.kind (end c.args.side)) c.in-Empty.ensures.0) }
+returns-in-Empty g t c = record { grown = grown_none c.args.root.levels; reads = sym (ap (pop g.K.Kind.kind (end c.args.side)) c.in-Empty.ensures.0) }
 
 pub returns-in-Single : goal.returns-in-Single
 returns-in-Single g t c = record {
-  grown = grown_none c.args.root.levels c.requires.sound;
+  grown = grown_none c.args.root.levels;
   reads = rw (tree_none c.args.arena.now 0 c.args.level 0 refl) (sym (ap (pop g.K.Kind.kind (end c.args.side)) c.in-Single.ensures.0));
 }
 
 pub returns-in-Some : goal.returns-in-Some
 returns-in-Some g t c =
     let seen = c.in-Deep.ensures in
-    let e : listed c.in-Deep.near ≡ c.finger-finger.result ∷ listed c.in-Some.others = c.in-Some.ensures ∙ ap (λ x. x ∷ listed c.in-Some.others) (sym c.finger-finger.ensures) in
-    let some : 1 ≤ length (listed c.in-Some.others) = omega (arith, listed_length c.in-Some.others, c.in-Some.others.filled.0) in
-    pop_first g.K.Kind.kind (end c.args.side) c.args.arena.now c.args.level c.args.root seen _ _ e (trimmed_some g.K.Kind.kind (end c.args.side) c.args.arena.now c.args.level c.args.root seen _ _ e some c.deep_at-rest.ensures)
+    let others = c.in-Some.near in
+    let first = c.split_first-finger.result.0 in
+    let e : listed c.in-Deep.near ≡ first ∷ listed others = c.split_first-finger.ensures ∙ ap (λ o. first ∷ listed_some o) c.in-Some.is in
+    let some : 1 ≤ length (listed others) = omega (arith, listed_length others, others.filled.0) in
+    pop_first g.K.Kind.kind (end c.args.side) c.args.arena.now c.args.level c.args.root seen _ _ e (trimmed_some g.K.Kind.kind (end c.args.side) c.args.arena.now c.args.level c.args.root seen _ _ e some c.make_deep-rest.ensures)
 
 pub returns-in-None : goal.returns-in-None
 returns-in-None g t c =
     let seen = c.in-Deep.ensures in
     let step : suc c.args.level ≡ c.args.level + 1 = omega arith in
     let levels = seen.levels in
-    let e : listed c.in-Deep.near ≡ c.finger-finger.result ∷ [] = c.in-None.ensures ∙ ap (λ x. x ∷ []) (sym c.finger-finger.ensures) in
+    let first = c.split_first-finger.result.0 in
+    let e : listed c.in-Deep.near ≡ first ∷ [] = c.split_first-finger.ensures ∙ ap (λ o. first ∷ listed_some o) c.in-None.is in
     pop_first g.K.Kind.kind (end c.args.side) c.args.arena.now c.args.level c.args.root seen _ [] e (emptied g.K.Kind.kind (end c.args.side) c.args.arena.now c.args.level c.in-Deep.middle seen.middle_formed (listed c.in-Deep.far) seen.far_formed step c.pop-below.ensures c.args.root.levels (omega arith) c.refill-rest.ensures)

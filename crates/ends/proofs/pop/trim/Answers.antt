@@ -13,7 +13,6 @@ pop-below-requires g c =
     let n = ap (λ j. count (rooted c.args.arena.now j c.args.middle)) step in
     record {
       room = omega (arith, c.requires.room);
-     
       shallow = c.requires.shallow;
       formed = subst (λ j. Formed j (rooted c.args.arena.now j c.args.middle)) step c.requires.middle;
       fits = omega (arith, n, c.requires.fits);
@@ -25,7 +24,6 @@ refill-requires g c =
     let spent = c.pop-below.ensures.grown.spent in
     record {
       room = omega (arith, c.requires.room);
-     
       shallow = omega (arith, below_shallow g.K.Kind.kind (end c.args.side) c.args.arena.now c.args.level c.args.middle c.requires.middle (listed c.args.far) c.requires.far step c.pop-below.ensures, c.requires.shallow);
       below = below_well g.K.Kind.kind (end c.args.side) c.args.arena.now c.args.level c.args.middle c.requires.middle (listed c.args.far) c.requires.far step c.pop-below.ensures;
       far = far_ready g.K.Kind.kind (end c.args.side) c.args.arena.now c.args.level c.args.middle c.requires.middle (listed c.args.far) c.requires.far step c.pop-below.ensures;
@@ -36,7 +34,7 @@ pub returns-in-Some : goal.returns-in-Some
 returns-in-Some g c =
     let d = c.in-Some.fingers in
     let some : 1 ≤ length (listed d) = omega (arith, listed_length d, d.filled.0) in
-    rw c.in-Some.is (trimmed_near g.K.Kind.kind (end c.args.side) (listed d) _ _ (c.args.middle.levels + 1) some (omega arith) c.deep_at.ensures)
+    rw c.in-Some.is (trimmed_near g.K.Kind.kind (end c.args.side) (listed d) _ _ (c.args.middle.levels + 1) some (omega arith) c.make_deep.ensures)
 
 pub returns-in-None : goal.returns-in-None
 returns-in-None g c =

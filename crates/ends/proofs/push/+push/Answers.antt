@@ -6,27 +6,26 @@ use Rattle.cells.proofs.Opened.{tree_none}
 use Rattle.ends.proofs.Pushing.{push_some, full_levels, below_some, below_exact, four_listed, push_empty, push_single, push_roomy, fingers_formed, fingers_count, middle_ready, three_ready, carried_count, near_ready, far_ready, below_ready, below_levels, level_count, push_fuller}
 use Rattle.ends.proofs.push.+push.Goals as goal
 
-pub deep_at-requires : goal.deep_at-requires
-deep_at-requires g t c =
+pub make_deep-requires : goal.make_deep-requires
+make_deep-requires g t c =
     let k = c.args.level in
     let h = c.args.arena.now in
     let e = c.in-Single.ensures in
     let none = tree_none h 0 (suc k) 0 refl in
-    let n = ap (λ ps. count_run (nodes h k ps)) c.one-near.ensures in
-    let f = ap (λ ps. count_run (nodes h k ps)) c.one-far.ensures in
+    let n = ap (λ ps. count_run (nodes h k ps)) c.of-near.ensures in
+    let f = ap (λ ps. count_run (nodes h k ps)) c.of-far.ensures in
     record {
       room = omega (arith, push_some g.K.Kind.kind (end c.args.side) c.args.arena.now c.args.level c.args.finger c.args.root c.requires.finger c.requires.formed, c.requires.room);
-     
       shallow = omega (arith, c.requires.shallow);
-      near = rw c.one-near.ensures (c.requires.finger, tt);
+      near = rw c.of-near.ensures (c.requires.finger, tt);
       middle = rw none tt;
-      far = rw c.one-far.ensures (subst (Formed k) e.0 c.requires.formed, tt);
+      far = rw c.of-far.ensures (subst (Formed k) e.0 c.requires.formed, tt);
       fits = omega (arith, n, f, ap count none, ap count e.0, c.requires.fits);
     }
 
 pub returns-then-near-lt4 : goal.returns-then-near-lt4
 returns-then-near-lt4 g t c =
-    push_roomy g.K.Kind.kind (end c.args.side) c.args.arena.now c.args.level c.args.finger c.args.root c.requires.finger c.requires.formed c.in-Deep.ensures _ c.deep_at-then-near-lt4.ensures c.prepend-more.ensures c.if-near-lt4.true
+    push_roomy g.K.Kind.kind (end c.args.side) c.args.arena.now c.args.level c.args.finger c.args.root c.requires.finger c.requires.formed c.in-Deep.ensures _ c.make_deep-then-near-lt4.ensures c.prepend-more.ensures c.if-near-lt4.true
 
 pub three_at-three-requires : goal.three_at-three-requires
 three_at-three-requires g t c =
@@ -55,11 +54,8 @@ push-below-requires g t c κs within =
               (
                 omega (arith, full_levels g.K.Kind.kind (end c.args.side) c.args.arena.now c.args.level c.args.finger c.args.root c.requires.finger c.requires.formed c.in-Deep.ensures full c.three_at-three.ensures step, c.requires.room),
                 (
-                  c.three_at-three.ensures.grown.sound,
-                  (
-                    omega (arith, c.requires.shallow),
-                    (middle_ready g.K.Kind.kind (end c.args.side) c.args.arena.now c.args.level c.args.finger c.args.root c.requires.finger c.requires.formed c.in-Deep.ensures full c.three_at-three.ensures step, (three_ready g.K.Kind.kind (end c.args.side) c.args.arena.now c.args.level c.args.finger c.args.root c.requires.finger c.requires.formed c.in-Deep.ensures full c.three_at-three.ensures step, omega (arith, carried_count g.K.Kind.kind (end c.args.side) c.args.arena.now c.args.level c.args.finger c.args.root c.requires.finger c.requires.formed c.in-Deep.ensures full c.three_at-three.ensures step, c.requires.fits))),
-                  ),
+                  omega (arith, c.requires.shallow),
+                  (middle_ready g.K.Kind.kind (end c.args.side) c.args.arena.now c.args.level c.args.finger c.args.root c.requires.finger c.requires.formed c.in-Deep.ensures full c.three_at-three.ensures step, (three_ready g.K.Kind.kind (end c.args.side) c.args.arena.now c.args.level c.args.finger c.args.root c.requires.finger c.requires.formed c.in-Deep.ensures full c.three_at-three.ensures step, omega (arith, carried_count g.K.Kind.kind (end c.args.side) c.args.arena.now c.args.level c.args.finger c.args.root c.requires.finger c.requires.formed c.in-Deep.ensures full c.three_at-three.ensures step, c.requires.fits))),
                 ),
               ),
             ),
@@ -68,21 +64,20 @@ push-below-requires g t c κs within =
       ),
     )
 
-pub deep_at-requires-in-Deep : goal.deep_at-requires-in-Deep
-deep_at-requires-in-Deep g t c =
+pub make_deep-requires-in-Deep : goal.make_deep-requires-in-Deep
+make_deep-requires-in-Deep g t c =
     let full = four_listed c.in-Deep.near c.if-near-lt4.false in
     let step : suc c.args.level ≡ c.args.level + 1 = omega arith in
-    let l = below_levels g.K.Kind.kind (end c.args.side) c.args.arena.now c.args.level c.args.finger c.args.root c.requires.finger c.requires.formed c.in-Deep.ensures full c.three_at-three.ensures step c.push-below.ensures _ c.two-two.ensures in
+    let l = below_levels g.K.Kind.kind (end c.args.side) c.args.arena.now c.args.level c.args.finger c.args.root c.requires.finger c.requires.formed c.in-Deep.ensures full c.three_at-three.ensures step c.push-below.ensures _ c.of-two.ensures in
     let spent = c.three_at-three.ensures.grown.spent in
     let more = c.push-below.ensures.grown.spent in
     record {
-      room = omega (arith, full_levels g.K.Kind.kind (end c.args.side) c.args.arena.now c.args.level c.args.finger c.args.root c.requires.finger c.requires.formed c.in-Deep.ensures full c.three_at-three.ensures step, below_exact g.K.Kind.kind (end c.args.side) c.args.arena.now c.args.level c.args.finger c.args.root c.requires.finger c.requires.formed c.in-Deep.ensures full c.three_at-three.ensures step c.push-below.ensures _ c.two-two.ensures, below_some g.K.Kind.kind (end c.args.side) c.args.arena.now c.args.level c.args.finger c.args.root c.requires.finger c.requires.formed c.in-Deep.ensures full c.three_at-three.ensures step c.push-below.ensures _ c.two-two.ensures, spent, more, c.requires.room);
-     
+      room = omega (arith, full_levels g.K.Kind.kind (end c.args.side) c.args.arena.now c.args.level c.args.finger c.args.root c.requires.finger c.requires.formed c.in-Deep.ensures full c.three_at-three.ensures step, below_exact g.K.Kind.kind (end c.args.side) c.args.arena.now c.args.level c.args.finger c.args.root c.requires.finger c.requires.formed c.in-Deep.ensures full c.three_at-three.ensures step c.push-below.ensures _ c.of-two.ensures, below_some g.K.Kind.kind (end c.args.side) c.args.arena.now c.args.level c.args.finger c.args.root c.requires.finger c.requires.formed c.in-Deep.ensures full c.three_at-three.ensures step c.push-below.ensures _ c.of-two.ensures, spent, more, c.requires.room);
       shallow = omega (arith, l, c.requires.shallow);
-      near = near_ready g.K.Kind.kind (end c.args.side) c.args.arena.now c.args.level c.args.finger c.args.root c.requires.finger c.requires.formed c.in-Deep.ensures full c.three_at-three.ensures step c.push-below.ensures _ c.two-two.ensures;
-      middle = below_ready g.K.Kind.kind (end c.args.side) c.args.arena.now c.args.level c.args.finger c.args.root c.requires.finger c.requires.formed c.in-Deep.ensures full c.three_at-three.ensures step c.push-below.ensures _ c.two-two.ensures;
-      far = far_ready g.K.Kind.kind (end c.args.side) c.args.arena.now c.args.level c.args.finger c.args.root c.requires.finger c.requires.formed c.in-Deep.ensures full c.three_at-three.ensures step c.push-below.ensures _ c.two-two.ensures;
-      fits = omega (arith, level_count g.K.Kind.kind (end c.args.side) c.args.arena.now c.args.level c.args.finger c.args.root c.requires.finger c.requires.formed c.in-Deep.ensures full c.three_at-three.ensures step c.push-below.ensures _ c.two-two.ensures, c.requires.fits);
+      near = near_ready g.K.Kind.kind (end c.args.side) c.args.arena.now c.args.level c.args.finger c.args.root c.requires.finger c.requires.formed c.in-Deep.ensures full c.three_at-three.ensures step c.push-below.ensures _ c.of-two.ensures;
+      middle = below_ready g.K.Kind.kind (end c.args.side) c.args.arena.now c.args.level c.args.finger c.args.root c.requires.finger c.requires.formed c.in-Deep.ensures full c.three_at-three.ensures step c.push-below.ensures _ c.of-two.ensures;
+      far = far_ready g.K.Kind.kind (end c.args.side) c.args.arena.now c.args.level c.args.finger c.args.root c.requires.finger c.requires.formed c.in-Deep.ensures full c.three_at-three.ensures step c.push-below.ensures _ c.of-two.ensures;
+      fits = omega (arith, level_count g.K.Kind.kind (end c.args.side) c.args.arena.now c.args.level c.args.finger c.args.root c.requires.finger c.requires.formed c.in-Deep.ensures full c.three_at-three.ensures step c.push-below.ensures _ c.of-two.ensures, c.requires.fits);
     }
 
 pub returns-in-Empty : goal.returns-in-Empty
@@ -90,23 +85,22 @@ returns-in-Empty g t c = push_empty g.K.Kind.kind (end c.args.side) c.args.arena
 
 pub returns-in-Single : goal.returns-in-Single
 returns-in-Single g t c =
-    push_single g.K.Kind.kind (end c.args.side) c.args.arena.now c.args.level c.args.finger c.args.root c.requires.finger c.requires.formed _ _ _ c.deep_at.ensures c.one-near.ensures c.one-far.ensures c.in-Single.ensures.0
+    push_single g.K.Kind.kind (end c.args.side) c.args.arena.now c.args.level c.args.finger c.args.root c.requires.finger c.requires.formed _ _ _ c.make_deep.ensures c.of-near.ensures c.of-far.ensures c.in-Single.ensures.0
 
 pub returns-else-near-lt4 : goal.returns-else-near-lt4
 returns-else-near-lt4 g t c =
     let full = four_listed c.in-Deep.near c.if-near-lt4.false in
     let step : suc c.args.level ≡ c.args.level + 1 = omega arith in
-    push_fuller g.K.Kind.kind (end c.args.side) c.args.arena.now c.args.level c.args.finger c.args.root c.requires.finger c.requires.formed c.in-Deep.ensures full c.three_at-three.ensures step c.push-below.ensures _ c.two-two.ensures c.deep_at-in-Deep.ensures
+    push_fuller g.K.Kind.kind (end c.args.side) c.args.arena.now c.args.level c.args.finger c.args.root c.requires.finger c.requires.formed c.in-Deep.ensures full c.three_at-three.ensures step c.push-below.ensures _ c.of-two.ensures c.make_deep-in-Deep.ensures
 
-pub deep_at-requires-then-near-lt4 : goal.deep_at-requires-then-near-lt4
-deep_at-requires-then-near-lt4 g t c =
+pub make_deep-requires-then-near-lt4 : goal.make_deep-requires-then-near-lt4
+make_deep-requires-then-near-lt4 g t c =
     let k = c.args.level in
     let h = c.args.arena.now in
     let seen = c.in-Deep.ensures in
     let n = ap (λ ps. count_run (nodes h k ps)) c.prepend-more.ensures in
     record {
       room = omega (arith, push_some g.K.Kind.kind (end c.args.side) c.args.arena.now c.args.level c.args.finger c.args.root c.requires.finger c.requires.formed, c.requires.room);
-     
       shallow = omega (arith, seen.levels, c.requires.shallow);
       near = rw c.prepend-more.ensures (c.requires.finger, seen.near_formed);
       middle = seen.middle_formed;
