@@ -10,7 +10,6 @@ use Rattle.model.proofs.Forms.{count_is, count_node_is, length_along}
 use Rattle.model.proofs.Popping.{Came, popped}
 use Rattle.cells.specs.Cells.{node, nodes, tree, rooted}
 use Rattle.cells.specs.Fingers.{listed}
-use Rattle.cells.specs.Chain.{Grown}
 use Rattle.cells.specs.Made.{MadeTree, deep_of, SeenDeep}
 use Rattle.cells.specs.declared.cell.Cell.{Cell}
 use Rattle.cells.specs.declared.cell.Root.{Root}

@@ -3,7 +3,7 @@ use Rattle.std.specs.Prelude.{◌≡◌, ℕ, ◌+◌, List, Some, None, Option}
 use Rattle.model.specs.Tree.{count_node, count}
 use Rattle.model.specs.Ends.{Popped as Taken, empty, got}
 use Rattle.model.specs.Forms.{FormedNode, Formed}
-use Rattle.cells.specs.Cells.{node, tree, rooted}
+use Rattle.cells.specs.Cells.{node, rooted}
 use Rattle.cells.specs.Chain.{Grown}
 use Rattle.cells.specs.declared.cell.Cell.{Cell}
 use Rattle.ends.specs.declared.pop.Popped.{Popped}

@@ -1,43 +1,12 @@
-use Rattle.std.proofs.Common.{◌≡◌, suc, ◌+◌, ◌<◌, ◌≤◌, [], ◌∷◌, length, sym, refl, ap, ◌∙◌, subst, arith, rules}
-use Rattle.model.specs.Tree.{count}
-use Rattle.model.specs.Forms.{Formed}
+use Rattle.std.proofs.Common.{◌≡◌, suc, ◌+◌, ◌≤◌, [], ◌∷◌, length, sym, refl, ap, ◌∙◌, arith}
 use Rattle.model.specs.Ends.{pop}
-use Rattle.cells.specs.Cells.{end, tree, rooted}
+use Rattle.cells.specs.Cells.{end}
 use Rattle.cells.specs.Fingers.{listed, listed_some}
 use Rattle.cells.proofs.Opened.{tree_none}
 use Rattle.cells.proofs.Frames.{grown_none}
 use Rattle.cells.proofs.Fours.{listed_length}
 use Rattle.ends.proofs.Popping.{below_well, below_shallow, far_ready, refill_count, emptied, pop_first, trimmed_some}
 use Rattle.ends.proofs.pop.+pop.Goals as goal
-
-pub pop-below-requires : goal.pop-below-requires
-pop-below-requires g t c κs within =
-    let seen = c.in-Deep.ensures in
-    let step : suc c.args.level ≡ c.args.level + 1 = omega arith in
-    let levels = seen.levels in
-    let less : c.in-Deep.middle.levels < c.args.root.levels = omega arith in
-    let n = ap (λ j. count (rooted c.args.arena.now j c.in-Deep.middle)) step in (
-      search rules,
-      (
-        within.0,
-        (
-          within.1.0,
-          (
-            within.1.1.0,
-            (
-              within.1.1.1,
-              (
-                omega (arith, c.requires.room),
-                (
-                  omega (arith, c.requires.shallow),
-                  (subst (λ j. Formed j (rooted c.args.arena.now j c.in-Deep.middle)) step seen.middle_formed, omega (arith, n, seen.counts, c.requires.fits)),
-                ),
-              ),
-            ),
-          ),
-        ),
-      ),
-    )
 
 pub refill-rest-requires : goal.refill-rest-requires
 refill-rest-requires g t c =
@@ -52,9 +21,6 @@ refill-rest-requires g t c =
       far = far_ready g.K.Kind.kind (end c.args.side) c.args.arena.now c.args.level c.in-Deep.middle seen.middle_formed (listed c.in-Deep.far) seen.far_formed step c.pop-below.ensures;
       fits = omega (arith, refill_count g.K.Kind.kind (end c.args.side) c.args.arena.now c.args.level c.in-Deep.middle seen.middle_formed (listed c.in-Deep.far) seen.far_formed step c.pop-below.ensures, seen.counts, c.requires.fits);
     }
-
-pub returns-in-Empty : goal.returns-in-Empty
-returns-in-Empty g t c = record { grown = grown_none c.args.root.levels; reads = sym (ap (pop g.K.Kind.kind (end c.args.side)) c.in-Empty.ensures.0) }
 
 pub returns-in-Single : goal.returns-in-Single
 returns-in-Single g t c = record {

@@ -3,7 +3,7 @@ use Rattle.model.specs.Tree.{count, count_run}
 use Rattle.model.specs.Forms.{Formed}
 use Rattle.cells.specs.Cells.{end, nodes}
 use Rattle.cells.proofs.Opened.{tree_none}
-use Rattle.ends.proofs.Pushing.{push_some, full_levels, below_some, below_exact, four_listed, push_empty, push_single, push_roomy, fingers_formed, fingers_count, middle_ready, three_ready, carried_count, near_ready, far_ready, below_ready, below_levels, level_count, push_fuller}
+use Rattle.ends.proofs.Pushing.{push_some, full_levels, below_some, below_exact, four_listed, push_empty, push_single, push_roomy, middle_ready, three_ready, carried_count, near_ready, far_ready, below_ready, below_levels, level_count, push_fuller}
 use Rattle.ends.proofs.push.+push.Goals as goal
 
 pub make_deep-requires : goal.make_deep-requires
@@ -26,14 +26,6 @@ make_deep-requires g t c =
 pub returns-then-near-lt4 : goal.returns-then-near-lt4
 returns-then-near-lt4 g t c =
     push_roomy g.K.Kind.kind (end c.args.side) c.args.arena.now c.args.level c.args.finger c.args.root c.requires.finger c.requires.formed c.in-Deep.ensures _ c.make_deep-then-near-lt4.ensures c.prepend-more.ensures c.if-near-lt4.true
-
-pub three_at-three-requires : goal.three_at-three-requires
-three_at-three-requires g t c =
-    let q = g.K.Kind.kind in
-    let full = four_listed c.in-Deep.near c.if-near-lt4.false in
-    let e = fingers_formed q (end c.args.side) c.args.arena.now c.args.level c.args.finger c.args.root c.requires.finger c.requires.formed c.in-Deep.ensures full in
-    let n = fingers_count q (end c.args.side) c.args.arena.now c.args.level c.args.finger c.args.root c.requires.finger c.requires.formed c.in-Deep.ensures full in
-    record { room = omega (arith, push_some g.K.Kind.kind (end c.args.side) c.args.arena.now c.args.level c.args.finger c.args.root c.requires.finger c.requires.formed, c.requires.room); near = e.1.0; middle = e.1.1.0; far = e.1.1.1.0; fits = omega (arith, n, c.requires.fits) }
 
 pub push-below-requires : goal.push-below-requires
 push-below-requires g t c κs within =
