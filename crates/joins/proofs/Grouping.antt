@@ -6,6 +6,7 @@ use Rattle.model.specs.Tree.{count_node, count_run}
 use Rattle.kinds.specs.Algebra.{Algebra}
 use Rattle.model.specs.Ends.{make2, make3}
 use Rattle.model.specs.Append.{group}
+use Rattle.model.specs.Replace.{regroup}
 use Rattle.model.specs.Forms.{FormedNode, Each}
 use Rattle.cells.specs.Cells.{node, nodes}
 use Rattle.cells.specs.Made.{MadeNode}
@@ -14,14 +15,6 @@ use Rattle.cells.proofs.Frames.{keep_node, keep_nodes, grown_more}
 use Rattle.cells.specs.Made.{MadeRun}
 
 module _ {I T Q : Type 0} (q : Algebra I T Q) (h : List (Cell I T)) (k : ℕ) where
-  group_two : (a b : ℕ) (more : List ℕ) → length more ≡ 0 → group q (nodes h k (a ∷ b ∷ more)) ≡ make2 q (node h k a) (node h k b) ∷ []
-  group_two a b [] l = refl
-  group_two a b (c ∷ more) l = absurd (omega arith)
-
-  group_three : (a b c : ℕ) (more : List ℕ) → length more ≡ 0 → group q (nodes h k (a ∷ b ∷ c ∷ more)) ≡ make3 q (node h k a) (node h k b) (node h k c) ∷ []
-  group_three a b c [] l = refl
-  group_three a b c (d ∷ more) l = absurd (omega arith)
-
   group_four : (a b c d : ℕ) (more : List ℕ) → length more ≡ 0 → group q (nodes h k (a ∷ b ∷ c ∷ d ∷ more)) ≡ make2 q (node h k a) (node h k b) ∷ make2 q (node h k c) (node h k d) ∷ []
   group_four a b c d [] l = refl
   group_four a b c d (e ∷ more) l = absurd (omega arith)
@@ -31,15 +24,18 @@ module _ {I T Q : Type 0} (q : Algebra I T Q) (h : List (Cell I T)) (k : ℕ) wh
   group_more a b c (d ∷ []) l = absurd (omega arith)
   group_more a b c (d ∷ e ∷ more) l = refl
 
+-- two and three fingers that were made one node
+module _ {I T Q : Type 0} (q : Algebra I T Q) {h h' : List (Cell I T)} {k p : ℕ} where
+  pub two_nodes : (a b : ℕ) (ls : List ℕ) → ls ≡ a ∷ b ∷ [] → MadeNode h h' 1 (suc k) p (regroup q (nodes h k ls)) → MadeNode h h' 1 (suc k) p (make2 q (node h k a) (node h k b))
+  two_nodes a b ls e u = subst (λ ls. MadeNode h h' 1 (suc k) p (regroup q (nodes h k ls))) e u
+
+  pub three_nodes : (a b c : ℕ) (ls : List ℕ) → ls ≡ a ∷ b ∷ c ∷ [] → MadeNode h h' 1 (suc k) p (regroup q (nodes h k ls)) → MadeNode h h' 1 (suc k) p (make3 q (node h k a) (node h k b) (node h k c))
+  three_nodes a b c ls e u = subst (λ ls. MadeNode h h' 1 (suc k) p (regroup q (nodes h k ls))) e u
+
 -- the row ps begins with a and b
 module _ {I T Q : Type 0} (q : Algebra I T Q) (h : List (Cell I T)) (k : ℕ) (ps : List ℕ) (w : Each k (nodes h k ps)) (a : ℕ) (ps₁ : List ℕ) (e₁ : ps ≡ a ∷ ps₁) (b : ℕ) (ps₂ : List ℕ) (e₂ : ps₁ ≡ b ∷ ps₂) where
   two_of : ps ≡ a ∷ b ∷ ps₂
   two_of = e₁ ∙ ap (λ r. a ∷ r) e₂
-
-  pub made_pair : {h' : List (Cell I T)} {p : ℕ} (ls : List ℕ) → MadeNode h h' 1 (suc k) p (make2 q (node h k a) (node h k b)) → ls ≡ p ∷ [] → length ps ≡ 2 → MadeRun h h' (length ls) (suc k) ls (group q (nodes h k ps))
-  made_pair ls u l n =
-      let z : length ps₂ ≡ 0 = omega (arith, ap length two_of) in
-      rw l (record { grown = u.grown; reads = ap (λ x. x ∷ []) u.reads ∙ sym (ap (λ ps. group q (nodes h k ps)) two_of ∙ group_two q h k a b ps₂ z) })
 
   -- and goes on with c
   module _ (c : ℕ) (ps₃ : List ℕ) (e₃ : ps₂ ≡ c ∷ ps₃) where
@@ -54,11 +50,6 @@ module _ {I T Q : Type 0} (q : Algebra I T Q) (h : List (Cell I T)) (k : ℕ) (p
 
     pub row_lengths : length ps ≡ 3 + length ps₃
     row_lengths = omega (arith, ap length three_of)
-
-    pub made_triple : {h' : List (Cell I T)} {p : ℕ} (ls : List ℕ) → MadeNode h h' 1 (suc k) p (make3 q (node h k a) (node h k b) (node h k c)) → ls ≡ p ∷ [] → length ps ≡ 3 → MadeRun h h' (length ls) (suc k) ls (group q (nodes h k ps))
-    made_triple ls u l n =
-        let z : length ps₃ ≡ 0 = omega (arith, ap length three_of) in
-        rw l (record { grown = u.grown; reads = ap (λ x. x ∷ []) u.reads ∙ sym (ap (λ ps. group q (nodes h k ps)) three_of ∙ group_three q h k a b c ps₃ z) })
 
     -- the first three are one node, and the rest is grouped
     module _ {h₁ : List (Cell I T)} {p : ℕ} (u : MadeNode h h₁ 1 (suc k) p (make3 q (node h k a) (node h k b) (node h k c))) where
@@ -93,20 +84,14 @@ module _ {I T Q : Type 0} (q : Algebra I T Q) (h : List (Cell I T)) (k : ℕ) (p
       four_parts : Each k (nodes h k (a ∷ b ∷ c ∷ d ∷ ps₄))
       four_parts = subst (λ ps. Each k (nodes h k ps)) four_of w
 
-      third_kept : node h₁ k c ≡ node h k c
-      third_kept = keep_node u.grown.extends k c four_parts.1.1.0
+      pair_kept : nodes h₁ k (c ∷ d ∷ []) ≡ nodes h k (c ∷ d ∷ [])
+      pair_kept = keep_nodes u.grown.extends k (c ∷ d ∷ []) (four_parts.1.1.0, (four_parts.1.1.1.0, tt))
 
-      fourth_kept : node h₁ k d ≡ node h k d
-      fourth_kept = keep_node u.grown.extends k d four_parts.1.1.1.0
+      pub pair_formed : (ls : List ℕ) → ls ≡ c ∷ d ∷ [] → Each k (nodes h₁ k ls)
+      pair_formed ls e = rw e (subst (Each k) (sym pair_kept) (four_parts.1.1.0, (four_parts.1.1.1.0, tt)))
 
-      pub third_ready : FormedNode k (node h₁ k c)
-      third_ready = subst (FormedNode k) (sym third_kept) four_parts.1.1.0
-
-      pub fourth_ready : FormedNode k (node h₁ k d)
-      fourth_ready = subst (FormedNode k) (sym fourth_kept) four_parts.1.1.1.0
-
-      pub pair_count : count_node (node h₁ k c) + count_node (node h₁ k d) ≤ count_run (nodes h k ps)
-      pair_count = omega (arith, ap count_node third_kept, ap count_node fourth_kept, ap (λ ps. count_run (nodes h k ps)) four_of)
+      pub pair_count : (ls : List ℕ) → ls ≡ c ∷ d ∷ [] → count_run (nodes h₁ k ls) ≤ count_run (nodes h k ps)
+      pair_count ls e = omega (arith, ap (λ ls. count_run (nodes h₁ k ls)) e, ap count_run pair_kept, ap (λ ps. count_run (nodes h k ps)) four_of)
 
       pub made_pairs : {h₂ : List (Cell I T)} {r : ℕ} (ls : List ℕ) → MadeNode h₁ h₂ 1 (suc k) r (make2 q (node h₁ k c) (node h₁ k d)) → ls ≡ p ∷ r ∷ [] → length ps ≡ 4 → MadeRun h h₂ (length ls) (suc k) ls (group q (nodes h k ps))
       made_pairs ls v l n =
@@ -114,5 +99,5 @@ module _ {I T Q : Type 0} (q : Algebra I T Q) (h : List (Cell I T)) (k : ℕ) (p
           let first = keep_node v.grown.extends (suc k) p (subst (FormedNode (suc k)) (sym u.reads) (refl, (four_parts.0, four_parts.1.0))) ∙ u.reads in
           rw l (record {
             grown = grown_more 2 u.grown v.grown (omega arith);
-            reads = rw (first, v.reads, third_kept, fourth_kept) (sym (ap (λ ps. group q (nodes h k ps)) four_of ∙ group_four q h k a b c d ps₄ z));
+            reads = rw (first, v.reads, keep_node u.grown.extends k c four_parts.1.1.0, keep_node u.grown.extends k d four_parts.1.1.1.0) (sym (ap (λ ps. group q (nodes h k ps)) four_of ∙ group_four q h k a b c d ps₄ z));
           })

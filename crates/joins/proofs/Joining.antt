@@ -20,6 +20,7 @@ use Rattle.cells.proofs.Fours.{listed_length}
 use Rattle.cells.proofs.Opened.{levels_read}
 use Rattle.cells.specs.Made.{MadeRun}
 use Rattle.ends.proofs.Pushing.{made_levels, made_as}
+use Rattle.cells.proofs.Turned.{nodes_onto, count_onto, turned_nodes}
 
 module _ {I T : Type 0} where
   -- five pushes at most
@@ -27,11 +28,7 @@ module _ {I T : Type 0} where
   base_room n ps t u e few l = let m = mul-le-mul_right (levels u) few in omega (arith, m, ap levels e)
 
   pub base_made : {h h' : List (Cell I T)} {k : ℕ} {r : Root} (ps : List ℕ) (t u : Tree I T) → t ≡ u → length ps ≤ 5 → MadeTree h h' (2 * (length ps * r.levels)) k r u → MadeTree h h' (10 * r.levels) k r t
-  base_made {h} {h'} {f} {f'} {k} {r} ps t u e few v = let m = mul-le-mul_right r.levels few in made_as (10 * r.levels) t v (sym e) (omega (arith, m))
-
-  count_onto : (xs ys : List (Node I T)) → count_run (onto xs ys) ≡ count_run xs + count_run ys
-  count_onto [] ys = omega arith
-  count_onto (x ∷ xs) ys = omega (arith, count_onto xs (x ∷ ys))
+  base_made {h} {h'} {k} {r} ps t u e few v = let m = mul-le-mul_right r.levels few in made_as (10 * r.levels) t v (sym e) (omega (arith, m))
 
   count_both : (xs ys : List (Node I T)) → count_run (xs ++ ys) ≡ count_run xs + count_run ys
   count_both [] ys = omega arith
@@ -44,10 +41,6 @@ module _ {I T : Type 0} where
   count_append q k t ls u w e l v =
       let a = count_is k (append q t ls u) (append_formed q k t ls u w e l v) ∙ ap length (append_items q k t ls u w e v) ∙ length-append (items t) (run front ls ++ items u) in
       omega (arith, a, length-append (run front ls) (items u), count_is k t w, count_run_is front k ls e, count_is k u v)
-
-  nodes_onto : (h : List (Cell I T)) (k : ℕ) (xs ys : List ℕ) → nodes h k (onto xs ys) ≡ onto (nodes h k xs) (nodes h k ys)
-  nodes_onto h k [] ys = refl
-  nodes_onto h k (x ∷ xs) ys = nodes_onto h k xs (x ∷ ys)
 
 onto_append : {A : Type 0} (xs zs ys : List A) → onto xs zs ++ ys ≡ onto xs (zs ++ ys)
 onto_append [] zs ys = refl
@@ -63,20 +56,11 @@ module _ {I T Q : Type 0} (q : Algebra I T Q) (h : List (Cell I T)) (k : ℕ) wh
 
   -- the loose fingers, turned round
   module _ (ls turned : List ℕ) (o : turned ≡ onto ls []) where
-    turned_nodes : nodes h k turned ≡ onto (nodes h k ls) []
-    turned_nodes = ap (nodes h k) o ∙ nodes_onto h k ls []
-
-    pub turned_formed : Each k (nodes h k ls) → Each k (nodes h k turned)
-    turned_formed w = subst (Each k) (sym turned_nodes) (each_onto k (nodes h k ls) [] w tt)
-
-    pub turned_count : count_run (nodes h k turned) ≡ count_run (nodes h k ls)
-    turned_count = ap count_run turned_nodes ∙ omega (arith, count_onto (nodes h k ls) [])
-
     pub with_empty : (t : Tree I T) (y : T) (n : ℕ) (f : List (Node I T)) (m : Tree I T) (b : List (Node I T)) (u : Tree I T) → t ≡ deep y n f m b → u ≡ none → append q t (nodes h k ls) u ≡ pushed q back (nodes h k turned) t
-    with_empty t y n f m b u e i = rw (e, i, turned_nodes)
+    with_empty t y n f m b u e i = rw (e, i, turned_nodes h k ls turned o)
 
     pub with_single : (t : Tree I T) (y : T) (n : ℕ) (f : List (Node I T)) (m : Tree I T) (b : List (Node I T)) (u : Tree I T) (x : ℕ) → t ≡ deep y n f m b → u ≡ single (node h k x) → append q t (nodes h k ls) u ≡ pushed q back (nodes h k (x ∷ turned)) t
-    with_single t y n f m b u x e i = rw (e, i, turned_nodes)
+    with_single t y n f m b u x e i = rw (e, i, turned_nodes h k ls turned o)
 
 -- two trees that have both ends; ps is the row between them
 module _ {I T Q : Type 0} (q : Algebra I T Q) (h : List (Cell I T)) (k : ℕ) (left right : Root) (ls : List ℕ) (v : Each k (nodes h k ls)) {f₁ b₁ f₂ b₂ : Filled} {m r : Root} (a : SeenDeep h k front left f₁ m b₁) (b : SeenDeep h k front right f₂ r b₂) (ps : List ℕ) (e : ps ≡ onto (listed b₁) [] ++ (ls ++ listed f₂)) where
@@ -168,7 +152,7 @@ module _ {I T Q : Type 0} (q : Algebra I T Q) (h : List (Cell I T)) (k : ℕ) (l
           omega (arith, n, ap count below_reads, ap count_run front_kept, ap count_run back_kept, groups_count, row_counts, a.counts, b.counts)
 
       pub appended : {h₃ : List (Cell I T)} {z : Root} → Formed k (rooted h k left) → Formed k (rooted h k right) → length ls ≤ 4 → MadeTree h₂ h₃ 1 k z (make q (nodes h₂ k (listed f₁)) (rooted h₂ (suc k) o) (nodes h₂ k (listed b₂))) → MadeTree h h₃ (10 * z.levels) k z (append q (rooted h k left) (nodes h k ls) (rooted h k right))
-      appended {h₃} {f'''} {z} wl wr short w =
+      appended {h₃} {z} wl wr short w =
           let few : length (listed gs) ≤ 4 = omega (arith, listed_length gs, gs.filled.1) in
           let same : make q (nodes h₂ k (listed f₁)) (rooted h₂ (suc k) o) (nodes h₂ k (listed b₂)) ≡ append q (rooted h k left) (nodes h k ls) (rooted h k right) = rw (front_kept, back_kept, below_reads) (sym joined_is) in
           let formed : Formed k (append q (rooted h k left) (nodes h k ls) (rooted h k right)) = append_formed q k (rooted h k left) (nodes h k ls) (rooted h k right) wl v (simp length-map short) wr in

@@ -8,6 +8,7 @@ use Rattle.model.specs.Forms.{FormedNode, Each, Formed}
 use Rattle.model.proofs.Pushing.{push_formed, push_levels}
 use Rattle.model.proofs.Appending.{pushed_formed}
 use Rattle.cells.specs.Cells.{node, nodes, tree, rooted}
+use Rattle.cells.specs.Chain.{free_cells}
 use Rattle.cells.specs.Made.{MadeTree}
 use Rattle.cells.specs.declared.cell.Cell.{Cell}
 use Rattle.cells.specs.declared.cell.Root.{Root}
@@ -73,7 +74,7 @@ module _ {I T Q : Type 0} (q : Algebra I T Q) (s : Side) (h : List (Cell I T)) (
     pub next_levels : levels (push q s (node h₁ k x) (rooted h₁ k r)) ≡ levels (pushed q s (nodes h k ps) (rooted h k root))
     next_levels = ap levels next_is
 
-    pub next_room : 2 * (length ps * levels (pushed q s (nodes h k ps) (rooted h k root))) ≤ f.count → 2 * levels (push q s (node h₁ k x) (rooted h₁ k r)) ≤ f₁.count + 1
+    pub next_room : 2 * (length ps * levels (pushed q s (nodes h k ps) (rooted h k root))) ≤ free_cells h → 2 * levels (push q s (node h₁ k x) (rooted h₁ k r)) ≤ free_cells h₁ + 1
     next_room l =
         let b = levels (pushed q s (nodes h k ps) (rooted h k root)) in
         let less : r.levels ≤ b = omega (arith, others_levels, others_depth) in
@@ -91,7 +92,7 @@ module _ {I T Q : Type 0} (q : Algebra I T Q) (s : Side) (h : List (Cell I T)) (
     next_count = omega (arith, ap count_node first_kept, ap count u.reads, pushed_count q s k (nodes h k qs) (rooted h k root) parts.1 w, others_count)
 
     pub pushed_all : {h₂ : List (Cell I T)} {o : Root} → MadeTree h₁ h₂ (2 * o.levels - 1) k o (push q s (node h₁ k x) (rooted h₁ k r)) → MadeTree h h₂ (2 * (length ps * o.levels)) k o (pushed q s (nodes h k ps) (rooted h k root))
-    pushed_all {h₂} {f₂} {o} z =
+    pushed_all {h₂} {o} z =
         let depth = made_levels z (push_formed q s k (node h₁ k x) (rooted h₁ k r) first_ready next_formed) in
         let deeper = push_deeper q s k (node h₁ k x) (rooted h₁ k r) next_formed in
         let same = ap levels u.reads in

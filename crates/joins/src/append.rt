@@ -12,18 +12,18 @@ ghost use Rattle.cells.specs.Fingers.{listed_some};
 
 use super::group::group_row;
 use super::row::Row;
-use cells::build::make_deep;
 use cells::arena::Arena;
-use cells::cell::{Root};
-use cells::side::Side;
-use cells::digits;
-use cells::digits::{reversed, reversed_some};
+use cells::build::make_deep;
+use cells::cell::Root;
+use cells::digits::reversed_some;
 use cells::fingers::Digit;
+use cells::side::Side;
 use cells::view::View;
 use ends::push::push;
 use kinds::Kind;
 
 // Fingers listed from the side, all pushed.
+#[cycle(pushing)]
 pub fn push_run<K: Kind>(
     arena: &mut Arena<'_, K::Item, K::Total>,
     level: u32,
@@ -41,14 +41,14 @@ pub fn push_run<K: Kind>(
     match run {
         None => root,
         Some(digit) => {
-            let others = digits::rest(digit);
-            let more = push_run::<K>(arena, level, side, others, root);
-            push::<K>(arena, level, side, more, digits::finger(digit, 0))
+            let (finger, others) = digit.split_first();
+            push_after::<K>(arena, level, side, finger, others, root)
         }
     }
 }
 
 // A finger and then others, listed from the side, all pushed.
+#[cycle(pushing)]
 pub fn push_after<K: Kind>(
     arena: &mut Arena<'_, K::Item, K::Total>,
     level: u32,
@@ -86,25 +86,15 @@ pub fn append<K: Kind>(
 {
     match arena.view(level, Side::Front, left) {
         View::Empty => push_run::<K>(arena, level, Side::Front, loose, right),
-        View::Single { finger } => push_after::<K>(arena,
-            level,
-            Side::Front,
-            finger,
-            loose,
-            right,
-        ),
+        View::Single { finger } => push_after::<K>(arena, level, Side::Front, finger, loose, right),
         View::Deep {
             near: front,
             middle: inner,
             far: back,
         } => match arena.view(level, Side::Front, right) {
-            View::Empty => push_run::<K>(arena,
-                level,
-                Side::Back,
-                reversed_some(loose),
-                left,
-            ),
-            View::Single { finger: only } => push_after::<K>(arena,
+            View::Empty => push_run::<K>(arena, level, Side::Back, reversed_some(loose), left),
+            View::Single { finger: only } => push_after::<K>(
+                arena,
                 level,
                 Side::Back,
                 only,

@@ -1,5 +1,5 @@
 // Nodes of the fingers of a row.
-ghost use Rattle.std.specs.Prelude.{◌≡◌, ℕ, suc, ◌+◌, ◌*◌, ◌^◌, ◌<◌, ◌≤◌, length};
+ghost use Rattle.std.specs.Prelude.{suc, ◌*◌, ◌^◌, ◌<◌, ◌≤◌, length};
 ghost use Rattle.model.specs.Tree.{count_run};
 ghost use Rattle.model.specs.Append.{group};
 ghost use Rattle.model.specs.Forms.{Each};
@@ -9,10 +9,9 @@ ghost use Rattle.cells.specs.Fingers.{listed};
 ghost use Rattle.joins.specs.Rows.{in_row};
 ghost use Rattle.cells.specs.Made.{MadeRun};
 
-use super::row::{Row, take_first, width};
-use cells::build::{make_three, make_two};
+use super::row::Row;
 use cells::arena::Arena;
-use cells::digits;
+use cells::build::make_node;
 use cells::fingers::Digit;
 use kinds::Kind;
 
@@ -20,7 +19,7 @@ use kinds::Kind;
 pub fn group_row<K: Kind>(
     arena: &mut Arena<'_, K::Item, K::Total>,
     level: u32,
-    row: Row,
+    mut row: Row,
 ) -> Digit
     requires room { length (in_row row) ≤ 3 * free_cells arena.old }
     requires long { 2 ≤ length (in_row row) }
@@ -28,29 +27,24 @@ pub fn group_row<K: Kind>(
     requires fits { count_run (nodes arena.old level (in_row row)) < 2 ^ 32 }
     ensures { MadeRun arena.old arena.new (length (listed result)) (suc level) (listed result) (group K.Kind.kind (nodes arena.old level (in_row row))) }
 {
-    let wide = width(row);
-    let first = take_first(row);
-    let second = take_first(first.rest);
+    let wide = row.width();
+    let first = row.take_first();
+    let second = row.take_first();
     if wide == 2 {
-        let pair = make_two::<K>(arena, level, first.finger, second.finger);
+        let pair = make_node::<K>(arena, level, Digit::of([first, second]));
         return Digit::of([pair]);
     }
-    let third = take_first(second.rest);
+    let third = row.take_first();
     if wide == 4 {
-        let fourth = take_first(third.rest);
-        let left = make_two::<K>(arena, level, first.finger, second.finger);
-        let right = make_two::<K>(arena, level, third.finger, fourth.finger);
+        let fourth = row.take_first();
+        let left = make_node::<K>(arena, level, Digit::of([first, second]));
+        let right = make_node::<K>(arena, level, Digit::of([third, fourth]));
         return Digit::of([left, right]);
     }
-    let three = make_three::<K>(arena,
-        level,
-        first.finger,
-        second.finger,
-        third.finger,
-    );
+    let three = make_node::<K>(arena, level, Digit::of([first, second, third]));
     if wide == 3 {
         return Digit::of([three]);
     }
-    let others = group_row::<K>(arena, level, third.rest);
+    let others = group_row::<K>(arena, level, row);
     others.prepend(three)
 }

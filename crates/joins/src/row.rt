@@ -1,11 +1,9 @@
 // A row of fingers, listed from the left.
-ghost use Rattle.std.specs.Prelude.{◌≡◌, ℕ, ◌+◌, ◌<◌, ◌≤◌, List, [], ◌∷◌, ◌++◌, length};
-ghost use Rattle.model.specs.Append.{onto};
-ghost use Rattle.cells.specs.Fingers.{listed};
+ghost use Rattle.std.specs.Prelude.{◌≡◌, ◌≤◌, [], ◌∷◌, length, MatchOption};
 ghost use Rattle.cells.specs.Fingers.{listed_some};
 ghost use Rattle.joins.specs.Rows.{in_row};
 
-use cells::digits;
+use cells::digits::count_of;
 use cells::fingers::Digit;
 
 // Up to twelve fingers.
@@ -16,64 +14,39 @@ pub struct Row {
     pub third: Option<Digit>,
 }
 
-// The first of a row, and the others.
-#[derive(Clone, Copy)]
-pub struct Next {
-    pub finger: u32,
-    pub rest: Row,
+impl Row {
+    // How many fingers are left.
+    pub fn width(self) -> u8
+        ensures is { result ≡ length (in_row self) }
+        ensures few { result ≤ 12 }
+    {
+        count_of(self.first) + (count_of(self.second) + count_of(self.third))
+    }
+
+    // Takes the first finger.
+    pub fn take_first(&mut self) -> u32
+        requires { 1 ≤ length (in_row self.old) }
+        ensures { in_row self.old ≡ result ∷ in_row self.new }
+    {
+        if let Some(finger) = take_from(&mut self.first) {
+            return finger;
+        }
+        if let Some(finger) = take_from(&mut self.second) {
+            return finger;
+        }
+        if let Some(finger) = take_from(&mut self.third) {
+            return finger;
+        }
+        unreachable()
+    }
 }
 
-pub fn count(digit: Option<Digit>) -> u8
-    ensures { (result ≡ length (listed_some digit)) × (result ≤ 4) }
+// Takes the first finger, if there is one.
+fn take_from(run: &mut Option<Digit>) -> Option<u32>
+    ensures { MatchOption result (listed_some run.old ≡ [] × listed_some run.new ≡ []) (λ finger. listed_some run.old ≡ finger ∷ listed_some run.new) }
 {
-    match digit {
-        Some(fingers) => fingers.count,
-        None => 0,
-    }
-}
-
-pub fn width(row: Row) -> u8
-    ensures { (result ≡ length (in_row row)) × (result ≤ 12) }
-{
-    count(row.first) + (count(row.second) + count(row.third))
-}
-
-pub fn take_first(row: Row) -> Next
-    requires { 1 ≤ length (in_row row) }
-    ensures { in_row row ≡ result.finger ∷ in_row result.rest }
-{
-    if let Some(digit) = row.first {
-        let first = digits::rest(digit);
-        return Next {
-            finger: digits::finger(digit, 0),
-            rest: Row {
-                first,
-                second: row.second,
-                third: row.third,
-            },
-        };
-    }
-    if let Some(digit) = row.second {
-        let second = digits::rest(digit);
-        return Next {
-            finger: digits::finger(digit, 0),
-            rest: Row {
-                first: None,
-                second,
-                third: row.third,
-            },
-        };
-    }
-    if let Some(digit) = row.third {
-        let third = digits::rest(digit);
-        return Next {
-            finger: digits::finger(digit, 0),
-            rest: Row {
-                first: None,
-                second: None,
-                third,
-            },
-        };
-    }
-    unreachable()
+    let digit = (*run)?;
+    let (finger, others) = digit.split_first();
+    *run = others;
+    Some(finger)
 }

@@ -4,11 +4,13 @@ use Rattle.model.specs.Append.{onto}
 use Rattle.model.specs.Forms.{Formed}
 use Rattle.cells.specs.Cells.{nodes, tree, rooted}
 use Rattle.cells.specs.Fingers.{listed}
+use Rattle.cells.specs.Chain.{free_cells}
 use Rattle.cells.proofs.Fours.{listed_length}
 use Rattle.cells.specs.Fingers.{listed_some}
 use Rattle.joins.proofs.Rows.{row_length}
 use Rattle.cells.proofs.Fours.{some_length}
-use Rattle.joins.proofs.Joining.{base_room, base_made, onto_empty, onto_single, turned_formed, turned_count, with_empty, with_single, row_formed, row_counts, row_long, joined_depth, inner_is, left_ready, right_ready, groups_ready, inner_count, below_ready, below_depth, front_ready, back_ready, joined_count, appended}
+use Rattle.cells.proofs.Turned.{turned_formed, turned_count}
+use Rattle.joins.proofs.Joining.{base_room, base_made, onto_empty, onto_single, with_empty, with_single, row_formed, row_counts, row_long, joined_depth, inner_is, left_ready, right_ready, groups_ready, inner_count, below_ready, below_depth, front_ready, back_ready, joined_count, appended}
 use Rattle.joins.proofs.append.+append.Goals as goal
 
 -- the left tree is empty
@@ -21,8 +23,7 @@ push_run-requires g t c =
     let u = rooted h k c.args.right in
     let e = onto_empty q h k (rooted h k c.args.left) (nodes h k ls) u c.in-Empty.ensures.0 in
     record {
-      room = base_room c.args.free.now.count ls _ _ e (omega (arith, some_length c.args.loose)) c.requires.room;
-     
+      room = base_room (free_cells c.args.arena.now) ls _ _ e (omega (arith, some_length c.args.loose)) c.requires.room;
       shallow = omega (arith, ap levels e, c.requires.shallow);
       formed = c.requires.right;
       run = c.requires.loose;
@@ -48,8 +49,7 @@ push_after-requires g t c =
     let is = c.in-Single.ensures.0 in
     let e = onto_single q h k (rooted h k c.args.left) x ls (rooted h k c.args.right) is in
     record {
-      room = base_room c.args.free.now.count (x ∷ ls) _ _ e (omega (arith, some_length c.args.loose)) c.requires.room;
-     
+      room = base_room (free_cells c.args.arena.now) (x ∷ ls) _ _ e (omega (arith, some_length c.args.loose)) c.requires.room;
       shallow = omega (arith, ap levels e, c.requires.shallow);
       formed = c.requires.right;
       run = (subst (Formed k) is c.requires.left, c.requires.loose);
@@ -76,12 +76,11 @@ push_run-requires-in-Empty-view g t c =
     let o = c.reversed_some.ensures in
     let e = with_empty q h k ls turned o (rooted h k c.args.left) _ _ _ _ _ (rooted h k c.args.right) c.in-Deep.ensures.is c.in-Empty-view.ensures.0 in
     record {
-      room = base_room c.args.free.now.count turned _ _ e (omega (arith, some_length c.reversed_some.result)) c.requires.room;
-     
+      room = base_room (free_cells c.args.arena.now) turned _ _ e (omega (arith, some_length c.reversed_some.result)) c.requires.room;
       shallow = omega (arith, ap levels e, c.requires.shallow);
       formed = c.requires.left;
-      run = turned_formed q h k ls turned o c.requires.loose;
-      fits = omega (arith, turned_count q h k ls turned o, c.requires.fits);
+      run = turned_formed h k ls turned o c.requires.loose;
+      fits = omega (arith, turned_count h k ls turned o, c.requires.fits);
     }
 
 pub returns-in-Empty-view : goal.returns-in-Empty-view
@@ -107,12 +106,11 @@ push_after-requires-in-Single-view g t c =
     let is = c.in-Single-view.ensures.0 in
     let e = with_single q h k ls turned o (rooted h k c.args.left) _ _ _ _ _ (rooted h k c.args.right) x c.in-Deep.ensures.is is in
     record {
-      room = base_room c.args.free.now.count (x ∷ turned) _ _ e (omega (arith, some_length c.reversed_some-in-Single-view.result)) c.requires.room;
-     
+      room = base_room (free_cells c.args.arena.now) (x ∷ turned) _ _ e (omega (arith, some_length c.reversed_some-in-Single-view.result)) c.requires.room;
       shallow = omega (arith, ap levels e, c.requires.shallow);
       formed = c.requires.left;
-      run = (subst (Formed k) is c.requires.right, turned_formed q h k ls turned o c.requires.loose);
-      fits = omega (arith, turned_count q h k ls turned o, ap count is, c.requires.fits);
+      run = (subst (Formed k) is c.requires.right, turned_formed h k ls turned o c.requires.loose);
+      fits = omega (arith, turned_count h k ls turned o, ap count is, c.requires.fits);
     }
 
 pub returns-in-Single-view : goal.returns-in-Single-view
@@ -134,7 +132,6 @@ group_row-grouped-requires g t c =
     let e : ps ≡ onto (listed c.in-Deep.back) [] ++ (ls ++ listed c.in-Deep-view.near) = ap (λ xs. xs ++ (ls ++ listed c.in-Deep-view.near)) c.reversed.ensures in
     record {
       room = omega (arith, row_length (record { first = Some c.reversed.result; second = c.args.loose; third = Some c.in-Deep-view.near }), joined_depth g.K.Kind.kind c.args.arena.now c.args.level c.args.left c.args.right ls c.requires.loose c.in-Deep.ensures c.in-Deep-view.ensures ps e, c.requires.room);
-     
       long = row_long g.K.Kind.kind c.args.arena.now c.args.level c.args.left c.args.right ls c.requires.loose c.in-Deep.ensures c.in-Deep-view.ensures ps e;
       formed = row_formed g.K.Kind.kind c.args.arena.now c.args.level c.args.left c.args.right ls c.requires.loose c.in-Deep.ensures c.in-Deep-view.ensures ps e;
       fits = omega (arith, row_counts g.K.Kind.kind c.args.arena.now c.args.level c.args.left c.args.right ls c.requires.loose c.in-Deep.ensures c.in-Deep-view.ensures ps e, c.in-Deep.ensures.counts, c.in-Deep-view.ensures.counts, c.requires.fits);
@@ -153,7 +150,7 @@ append-below-requires g t c κs within =
     let inner = ap levels (inner_is g.K.Kind.kind c.args.arena.now c.args.level c.args.left c.args.right ls c.requires.loose c.in-Deep.ensures c.in-Deep-view.ensures ps e gs c.group_row-grouped.ensures step) in
     let lower = c.in-Deep.ensures.levels in
     let less : c.in-Deep.inner.levels < c.args.left.levels = omega (arith, lower) in
-    (search rules, (within.0, (within.1.0, (within.1.1.0, (within.1.1.1, (omega (arith, depth, inner, short, spent, c.requires.room), (c.group_row-grouped.ensures.grown.sound, (omega (arith, depth, inner, c.requires.shallow), (left_ready g.K.Kind.kind c.args.arena.now c.args.level c.args.left c.args.right ls c.requires.loose c.in-Deep.ensures c.in-Deep-view.ensures ps e gs c.group_row-grouped.ensures step, (groups_ready g.K.Kind.kind c.args.arena.now c.args.level c.args.left c.args.right ls c.requires.loose c.in-Deep.ensures c.in-Deep-view.ensures ps e gs c.group_row-grouped.ensures step, (right_ready g.K.Kind.kind c.args.arena.now c.args.level c.args.left c.args.right ls c.requires.loose c.in-Deep.ensures c.in-Deep-view.ensures ps e gs c.group_row-grouped.ensures step, omega (arith, inner_count g.K.Kind.kind c.args.arena.now c.args.level c.args.left c.args.right ls c.requires.loose c.in-Deep.ensures c.in-Deep-view.ensures ps e gs c.group_row-grouped.ensures step, c.requires.fits))))))))))))
+    (search rules, (within.0, (within.1.0, (within.1.1.0, (within.1.1.1, (omega (arith, depth, inner, short, spent, c.requires.room), (omega (arith, depth, inner, c.requires.shallow), (left_ready g.K.Kind.kind c.args.arena.now c.args.level c.args.left c.args.right ls c.requires.loose c.in-Deep.ensures c.in-Deep-view.ensures ps e gs c.group_row-grouped.ensures step, (groups_ready g.K.Kind.kind c.args.arena.now c.args.level c.args.left c.args.right ls c.requires.loose c.in-Deep.ensures c.in-Deep-view.ensures ps e gs c.group_row-grouped.ensures step, (right_ready g.K.Kind.kind c.args.arena.now c.args.level c.args.left c.args.right ls c.requires.loose c.in-Deep.ensures c.in-Deep-view.ensures ps e gs c.group_row-grouped.ensures step, omega (arith, inner_count g.K.Kind.kind c.args.arena.now c.args.level c.args.left c.args.right ls c.requires.loose c.in-Deep.ensures c.in-Deep-view.ensures ps e gs c.group_row-grouped.ensures step, c.requires.fits)))))))))))
 
 pub make_deep-requires : goal.make_deep-requires
 make_deep-requires g t c =
@@ -169,11 +166,10 @@ make_deep-requires g t c =
     let below = below_depth g.K.Kind.kind c.args.arena.now c.args.level c.args.left c.args.right ls c.requires.loose c.in-Deep.ensures c.in-Deep-view.ensures ps e gs c.group_row-grouped.ensures step c.append-below.ensures in
     record {
       room = omega (arith, depth, below, short, spent, more, c.requires.room);
-     
       shallow = omega (arith, depth, below, c.requires.shallow);
-      front = front_ready g.K.Kind.kind c.args.arena.now c.args.level c.args.left c.args.right ls c.requires.loose c.in-Deep.ensures c.in-Deep-view.ensures ps e gs c.group_row-grouped.ensures step c.append-below.ensures;
+      near = front_ready g.K.Kind.kind c.args.arena.now c.args.level c.args.left c.args.right ls c.requires.loose c.in-Deep.ensures c.in-Deep-view.ensures ps e gs c.group_row-grouped.ensures step c.append-below.ensures;
       middle = below_ready g.K.Kind.kind c.args.arena.now c.args.level c.args.left c.args.right ls c.requires.loose c.in-Deep.ensures c.in-Deep-view.ensures ps e gs c.group_row-grouped.ensures step c.append-below.ensures;
-      back = back_ready g.K.Kind.kind c.args.arena.now c.args.level c.args.left c.args.right ls c.requires.loose c.in-Deep.ensures c.in-Deep-view.ensures ps e gs c.group_row-grouped.ensures step c.append-below.ensures;
+      far = back_ready g.K.Kind.kind c.args.arena.now c.args.level c.args.left c.args.right ls c.requires.loose c.in-Deep.ensures c.in-Deep-view.ensures ps e gs c.group_row-grouped.ensures step c.append-below.ensures;
       fits = omega (arith, joined_count g.K.Kind.kind c.args.arena.now c.args.level c.args.left c.args.right ls c.requires.loose c.in-Deep.ensures c.in-Deep-view.ensures ps e gs c.group_row-grouped.ensures step c.append-below.ensures, c.requires.fits);
     }
 
