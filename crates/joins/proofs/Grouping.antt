@@ -2,7 +2,7 @@
 use Rattle.std.proofs.Common.{◌≡◌, ℕ, suc, ◌+◌, ◌*◌, ◌≤◌, List, [], ◌∷◌, length, sym, refl, ap, ◌∙◌, subst, arith}
 use Rattle.std.proofs.lemmas.List.{length-map}
 use Rattle.model.proofs.Appending.{group_short}
-use Rattle.model.specs.Tree.{count_node, count_run}
+use Rattle.model.specs.Tree.{count_run}
 use Rattle.kinds.specs.Algebra.{Algebra}
 use Rattle.model.specs.Ends.{make2, make3}
 use Rattle.model.specs.Append.{group}

@@ -7,7 +7,7 @@ use Rattle.model.specs.Append.{pushed}
 use Rattle.model.specs.Forms.{FormedNode, Each, Formed}
 use Rattle.model.proofs.Pushing.{push_formed, push_levels}
 use Rattle.model.proofs.Appending.{pushed_formed}
-use Rattle.cells.specs.Cells.{node, nodes, tree, rooted}
+use Rattle.cells.specs.Cells.{node, nodes, rooted}
 use Rattle.cells.specs.Chain.{free_cells}
 use Rattle.cells.specs.Made.{MadeTree}
 use Rattle.cells.specs.declared.cell.Cell.{Cell}

@@ -2,7 +2,7 @@ use Rattle.std.proofs.Common.{◌≡◌, suc, ◌+◌, ◌<◌, ◌≤◌, [], �
 use Rattle.model.specs.Tree.{levels, count}
 use Rattle.model.specs.Append.{onto}
 use Rattle.model.specs.Forms.{Formed}
-use Rattle.cells.specs.Cells.{nodes, tree, rooted}
+use Rattle.cells.specs.Cells.{nodes, rooted}
 use Rattle.cells.specs.Fingers.{listed}
 use Rattle.cells.specs.Chain.{free_cells}
 use Rattle.cells.proofs.Fours.{listed_length}
@@ -14,22 +14,6 @@ use Rattle.joins.proofs.Joining.{base_room, base_made, onto_empty, onto_single, 
 use Rattle.joins.proofs.append.+append.Goals as goal
 
 -- the left tree is empty
-pub push_run-requires : goal.push_run-requires
-push_run-requires g t c =
-    let q = g.K.Kind.kind in
-    let h = c.args.arena.now in
-    let k = c.args.level in
-    let ls = listed_some c.args.loose in
-    let u = rooted h k c.args.right in
-    let e = onto_empty q h k (rooted h k c.args.left) (nodes h k ls) u c.in-Empty.ensures.0 in
-    record {
-      room = base_room (free_cells c.args.arena.now) ls _ _ e (omega (arith, some_length c.args.loose)) c.requires.room;
-      shallow = omega (arith, ap levels e, c.requires.shallow);
-      formed = c.requires.right;
-      run = c.requires.loose;
-      fits = omega (arith, c.requires.fits);
-    }
-
 pub returns-in-Empty : goal.returns-in-Empty
 returns-in-Empty g t c =
     let q = g.K.Kind.kind in
@@ -39,23 +23,6 @@ returns-in-Empty g t c =
     base_made ls _ _ (onto_empty q h k (rooted h k c.args.left) (nodes h k ls) (rooted h k c.args.right) c.in-Empty.ensures.0) (omega (arith, some_length c.args.loose)) c.push_run.ensures
 
 -- the left tree is a single finger
-pub push_after-requires : goal.push_after-requires
-push_after-requires g t c =
-    let q = g.K.Kind.kind in
-    let h = c.args.arena.now in
-    let k = c.args.level in
-    let ls = listed_some c.args.loose in
-    let x = c.in-Single.finger in
-    let is = c.in-Single.ensures.0 in
-    let e = onto_single q h k (rooted h k c.args.left) x ls (rooted h k c.args.right) is in
-    record {
-      room = base_room (free_cells c.args.arena.now) (x ∷ ls) _ _ e (omega (arith, some_length c.args.loose)) c.requires.room;
-      shallow = omega (arith, ap levels e, c.requires.shallow);
-      formed = c.requires.right;
-      run = (subst (Formed k) is c.requires.left, c.requires.loose);
-      fits = omega (arith, ap count is, c.requires.fits);
-    }
-
 pub returns-in-Single : goal.returns-in-Single
 returns-in-Single g t c =
     let q = g.K.Kind.kind in

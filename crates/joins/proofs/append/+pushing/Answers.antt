@@ -1,4 +1,4 @@
-use Rattle.std.proofs.Common.{◌∷◌, ◌*◌, ◌+◌, ◌<◌, length, refl, arith, rules}
+use Rattle.std.proofs.Common.{◌∷◌, refl, arith, rules}
 use Rattle.cells.specs.Cells.{end}
 use Rattle.cells.specs.Fingers.{listed_some}
 use Rattle.joins.proofs.Runs.{others_ready, others_count, others_levels, others_room, others_depth, next_room, next_formed, first_ready, next_count, pushed_all}

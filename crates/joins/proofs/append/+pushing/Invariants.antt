@@ -1,4 +1,4 @@
-use Rattle.std.proofs.Common.{ℕ, suc, ◌+◌, ◌*◌, length}
+use Rattle.std.proofs.Common.{◌+◌, ◌*◌, length}
 use Rattle.cells.specs.Fingers.{listed_some}
 use Rattle.joins.proofs.append.+pushing.Given as goal
 

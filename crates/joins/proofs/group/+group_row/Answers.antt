@@ -1,4 +1,4 @@
-use Rattle.std.proofs.Common.{◌≡◌, ◌+◌, ◌<◌, ◌≤◌, length, sym, ◌∙◌, arith, rules}
+use Rattle.std.proofs.Common.{◌<◌, ◌≤◌, length, sym, ◌∙◌, arith, rules}
 use Rattle.joins.specs.Rows.{in_row}
 use Rattle.joins.proofs.Rows.{row_length}
 use Rattle.joins.proofs.Grouping.{two_nodes, three_nodes, row_lengths, rest_ready, rest_count, others_few, made_more, pair_formed, pair_count, made_pairs}
