@@ -1,18 +1,21 @@
 // The item at a position.
 ghost use Rattle.std.specs.Prelude.{◌≡◌, ◌+◌, ◌^◌, ◌<◌, slice_index_or};
-ghost use Rattle.model.specs.Tree.{count_node, count, items_node, items};
-ghost use Rattle.model.specs.Forms.{FormedNode, Formed};
-ghost use Rattle.cells.specs.Cells.{node, rooted};
+ghost use Rattle.model.specs.Tree.{front, run, count_node, count_run, count, items_node, items};
+ghost use Rattle.model.specs.Forms.{FormedNode, Each, Formed};
+ghost use Rattle.cells.specs.Cells.{node, nodes, rooted};
+ghost use Rattle.cells.specs.Fingers.{listed};
 
 use super::cut::cut_digit;
 use cells::arena::Arena;
-use cells::cell::{Body, Root};
-use cells::side::Side;
+use cells::cell::Root;
+use cells::fingers::Digit;
 use cells::read::{weigh_run, weigh_tree};
+use cells::side::Side;
 use cells::view::View;
 use kinds::Kind;
 
 // The item at a position of a node.
+#[cycle(item)]
 pub fn node_item<K: Kind>(
     arena: &Arena<'_, K::Item, K::Total>,
     level: u32,
@@ -24,16 +27,26 @@ pub fn node_item<K: Kind>(
     ensures { result ≡ slice_index_or (items_node (node arena.now level at)) position result }
 {
     if level == 0 {
-        let cell = cells[at as usize];
-        let body = cell.body;
-        return match body {
-            Body::Item { item } => item,
-            _ => unreachable(),
-        };
+        return arena.item(at);
     }
     let parts = arena.parts(level - 1, Side::Front, at);
-    let found = cut_digit::<K>(arena, level - 1, position, None, parts);
-    node_item::<K>(arena, level - 1, found.finger, found.offset)
+    item_in::<K>(arena, level - 1, parts, position)
+}
+
+// The item at a position of fingers listed from the left.
+#[cycle(item)]
+fn item_in<K: Kind>(
+    arena: &Arena<'_, K::Item, K::Total>,
+    level: u32,
+    digit: Digit,
+    position: u32,
+) -> K::Item
+    requires formed { Each level (nodes arena.now level (listed digit)) }
+    requires within { position < count_run (nodes arena.now level (listed digit)) }
+    ensures { result ≡ slice_index_or (run front (nodes arena.now level (listed digit))) position result }
+{
+    let cut = cut_digit::<K>(arena, level, position, None, digit);
+    node_item::<K>(arena, level, cut.finger, cut.offset)
 }
 
 // The item at a position of a tree.
@@ -55,16 +68,14 @@ pub fn item_at<K: Kind>(
         View::Deep { near, middle, far } => {
             let first = weigh_run::<K>(arena, level, Side::Front, near);
             if position < first.items {
-                let found = cut_digit::<K>(arena, level, position, None, near);
-                return node_item::<K>(arena, level, found.finger, found.offset);
+                return item_in::<K>(arena, level, near, position);
             }
             let after = position - first.items;
             let inner = weigh_tree::<K>(arena, level + 1, middle);
             if after < inner.items {
                 return item_at::<K>(arena, level + 1, middle, after);
             }
-            let last = cut_digit::<K>(arena, level, after - inner.items, None, far.reversed());
-            node_item::<K>(arena, level, last.finger, last.offset)
+            item_in::<K>(arena, level, far.reversed(), after - inner.items)
         }
     }
 }
