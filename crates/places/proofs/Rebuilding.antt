@@ -2,7 +2,7 @@
 use Rattle.std.proofs.Common.{◌≡◌, ℕ, suc, ◌+◌, ◌-◌, ◌<◌, ◌≤◌, Bool, true, false, ltb, List, [], length, set, sym, refl, ap, ◌∙◌, subst, arith}
 use borrow.Author.Tests.{lt-true, le-false}
 use Rattle.std.proofs.lemmas.List.{length-set}
-use Rattle.model.specs.Tree.{Node, Tree, single, front, items, count_node, count_run, count, levels}
+use Rattle.model.specs.Tree.{Node, Tree, single, front, items_node, items, count_run, count, levels}
 use Rattle.kinds.specs.Algebra.{Algebra}
 use Rattle.model.specs.Ends.{make}
 use Rattle.model.specs.Append.{onto}
@@ -11,82 +11,87 @@ use Rattle.model.specs.Replace.{swap, replaced_node, replaced}
 use Rattle.model.specs.Forms.{FormedNode, Each, Formed}
 use Rattle.model.proofs.Forms.{count_is}
 use Rattle.model.proofs.Replacing.{replaced_well, node_keeps}
-use Rattle.cells.specs.Cells.{node, nodes, tree, rooted}
+use Rattle.cells.specs.Cells.{node, nodes, rooted}
 use Rattle.cells.specs.Chain.{Grown}
 use Rattle.cells.specs.Fingers.{listed}
-use Rattle.cells.specs.Made.{MadeNode, MadeTree, SeenDeep}
+use Rattle.cells.specs.Made.{MadeNode, MadeTree, MadeRun, SeenDeep}
 use Rattle.cells.specs.declared.cell.Cell.{Cell}
 use Rattle.cells.specs.declared.cell.Root.{Root}
 use Rattle.cells.specs.declared.fingers.Digit.{Digit as Filled}
 use Rattle.cells.proofs.Frames.{keep_nodes, keep_tree, grown_more}
 use Rattle.cells.proofs.Opened.{levels_read}
-use Rattle.cells.specs.Made.{MadeRun}
-use Rattle.cuts.proofs.Finding.{nodes_onto}
+use Rattle.cells.proofs.Turned.{turned_nodes}
 
 -- the parts of a level that is built anew
 pub record Rebuilt {I T : Type 0} {Q : Type 0} (q : Algebra I T Q) (x : I) (h : List (Cell I T)) (k : ℕ) (root : Root) (i : ℕ) (h₁ : List (Cell I T)) (c : ℕ) (ps : List ℕ) (o : Root) (qs : List ℕ) : Type 0 where
   pub grown : Grown h h₁ c
-  pub ends : Each k (nodes h₁ k ps)
+  pub near : Each k (nodes h₁ k ps)
   pub middle : Formed (suc k) (rooted h₁ (suc k) o)
-  pub tail : Each k (nodes h₁ k qs)
+  pub far : Each k (nodes h₁ k qs)
   pub fits : count_run (nodes h₁ k ps) + (count (rooted h₁ (suc k) o) + count_run (nodes h₁ k qs)) ≡ count (rooted h k root)
   pub depth : suc o.levels ≡ root.levels
   pub is : make q (nodes h₁ k ps) (rooted h₁ (suc k) o) (nodes h₁ k qs) ≡ replaced q x k i (rooted h k root)
 
-module _ {I T Q : Type 0} (q : Algebra I T Q) (x : I) (h : List (Cell I T)) (k : ℕ) (root : Root) (i : ℕ) where
-  pub rebuilt_made : {h₁ h₂ : List (Cell I T)} {c : ℕ} {ps qs : List ℕ} {o z : Root} (d : ℕ) → Rebuilt q x h k root i h₁ f f₁ c ps o qs → c + 1 ≤ d → MadeTree h₁ h₂ 1 k z (make q (nodes h₁ k ps) (rooted h₁ (suc k) o) (nodes h₁ k qs)) → MadeTree h h₂ d k z (replaced q x k i (rooted h k root))
-  rebuilt_made d r l m = record { grown = grown_more d r.grown m.grown l; reads = m.reads ∙ r.is }
+module _ {I T Q : Type 0} (q : Algebra I T Q) (x : I) (h : List (Cell I T)) (k : ℕ) (root : Root) (i : ℕ) (w : Formed k (rooted h k root)) (l : i < count (rooted h k root)) where
+  -- a level of one finger, which was made anew
+  module _ {h₁ : List (Cell I T)} {c y : ℕ} (a : ℕ) (e : rooted h k root ≡ single (node h k a)) (n : MadeNode h h₁ c k y (replaced_node q x k i (node h k a))) where
+    kept : FormedNode k (replaced_node q x k i (node h k a)) × (items_node (replaced_node q x k i (node h k a)) ≡ set (items_node (node h k a)) i x)
+    kept = node_keeps q x k i (node h k a) (subst (Formed k) e w) (omega (arith, ap count e, l))
 
-  pub single_made : {h₁ h₂ : List (Cell I T)} {c y : ℕ} {z : Root} (d a : ℕ) → rooted h k root ≡ single (node h k a) → MadeNode h h₁ c k y (replaced_node q x k i (node h k a)) → c + 1 ≤ d → MadeTree h₁ h₂ 1 k z (single (node h₁ k y)) → MadeTree h h₂ d k z (replaced q x k i (rooted h k root))
-  single_made d a e n l m = record { grown = grown_more d n.grown m.grown l; reads = m.reads ∙ ap single n.reads ∙ sym (ap (replaced q x k i) e) }
+    pub single_ready : FormedNode k (node h₁ k y)
+    single_ready = subst (FormedNode k) (sym n.reads) kept.0
 
-  pub single_ready : {h₁ : List (Cell I T)} {c y : ℕ} (a : ℕ) → FormedNode k (node h k a) → i < count_node (node h k a) → MadeNode h h₁ c k y (replaced_node q x k i (node h k a)) → FormedNode k (node h₁ k y)
-  single_ready a w l n = subst (FormedNode k) (sym n.reads) (node_keeps q x k i (node h k a) w l).0
+    pub single_items : {h₂ : List (Cell I T)} {z : Root} → MadeTree h₁ h₂ 1 k z (single (node h₁ k y)) → items (rooted h₂ k z) ≡ set (items (rooted h k root)) i x
+    single_items m = ap items m.reads ∙ ap items_node n.reads ∙ kept.1 ∙ sym (ap (λ t. set (items t) i x) e)
 
-  module _ (w : Formed k (rooted h k root)) (l : i < count (rooted h k root)) where
-    pub made_items : {h₁ : List (Cell I T)} {c : ℕ} (o : Root) → MadeTree h h₁ c k o (replaced q x k i (rooted h k root)) → items (rooted h₁ k o) ≡ set (items (rooted h k root)) i x
-    made_items o u = ap items u.reads ∙ (replaced_well q x k i (rooted h k root) w l).1.0
+  pub rebuilt_made : {h₁ h₂ : List (Cell I T)} {c : ℕ} {ps qs : List ℕ} {o z : Root} (d : ℕ) → Rebuilt q x h k root i h₁ c ps o qs → c + 1 ≤ d → MadeTree h₁ h₂ 1 k z (make q (nodes h₁ k ps) (rooted h₁ (suc k) o) (nodes h₁ k qs)) → MadeTree h h₂ d k z (replaced q x k i (rooted h k root)) × (items (rooted h₂ k z) ≡ set (items (rooted h k root)) i x)
+  rebuilt_made d r n m =
+      let u : MadeTree _ _ d k _ (replaced q x k i (rooted h k root)) = record { grown = grown_more d r.grown m.grown n; reads = m.reads ∙ r.is } in
+      (u, ap items u.reads ∙ (replaced_well q x k i (rooted h k root) w l).1.0)
 
-    rebuilt : {h₁ : List (Cell I T)} {c : ℕ} (ps : List ℕ) (o : Root) (qs : List ℕ) (F : List (Node I T)) (M : Tree I T) (B : List (Node I T)) → Grown h h₁ c → make q F M B ≡ replaced q x k i (rooted h k root) → nodes h₁ k ps ≡ F → rooted h₁ (suc k) o ≡ M → nodes h₁ k qs ≡ B → Rebuilt q x h k root i h₁ f f₁ c ps o qs
-    rebuilt {h₁} ps o qs F M B g e a b d =
-        let t = replaced_well q x k i (rooted h k root) w l in
-        let v : Formed k (make q F M B) = subst (Formed k) (sym e) t.0 in
-        let m : Formed (suc k) (rooted h₁ (suc k) o) = subst (Formed (suc k)) (sym b) v.1.1.0 in
-        let n = count_is k (make q F M B) v ∙ ap items_long (e) ∙ ap length t.1.0 ∙ length-set (items (rooted h k root)) i x ∙ sym (count_is k (rooted h k root) w) in
-        let y = levels_read h root.levels k root.at w in
-        let z = levels_read h₁ o.levels (suc k) o.at m in
-        record {
-          grown = g;
-          ends = subst (Each k) (sym a) v.1.0.1.1;
-          middle = m;
-          tail = subst (Each k) (sym d) v.1.1.1.1.1;
-          fits = omega (arith, ap count_run a, ap count b, ap count_run d, n);
-          depth = omega (arith, ap levels e, t.1.1, y, z, ap levels b);
-          is = ap (λ F. make q F (rooted h₁ (suc k) o) (nodes h₁ k qs)) a ∙ ap (λ M. make q F M (nodes h₁ k qs)) b ∙ ap (make q F M) d ∙ e;
-        }
-      where
-        items_long : Tree I T → ℕ
-        items_long t = length (items t)
+  rebuilt : {h₁ : List (Cell I T)} {c : ℕ} (ps : List ℕ) (o : Root) (qs : List ℕ) (F : List (Node I T)) (M : Tree I T) (B : List (Node I T)) → Grown h h₁ c → make q F M B ≡ replaced q x k i (rooted h k root) → nodes h₁ k ps ≡ F → rooted h₁ (suc k) o ≡ M → nodes h₁ k qs ≡ B → Rebuilt q x h k root i h₁ c ps o qs
+  rebuilt {h₁} ps o qs F M B g e a b d =
+      let t = replaced_well q x k i (rooted h k root) w l in
+      let v : Formed k (make q F M B) = subst (Formed k) (sym e) t.0 in
+      let m : Formed (suc k) (rooted h₁ (suc k) o) = subst (Formed (suc k)) (sym b) v.1.1.0 in
+      let n = count_is k (make q F M B) v ∙ ap items_long e ∙ ap length t.1.0 ∙ length-set (items (rooted h k root)) i x ∙ sym (count_is k (rooted h k root) w) in
+      let y = levels_read h root.levels k root.at w in
+      let z = levels_read h₁ o.levels (suc k) o.at m in
+      record {
+        grown = g;
+        near = subst (Each k) (sym a) v.1.0.1.1;
+        middle = m;
+        far = subst (Each k) (sym d) v.1.1.1.1.1;
+        fits = omega (arith, ap count_run a, ap count b, ap count_run d, n);
+        depth = omega (arith, ap levels e, t.1.1, y, z, ap levels b);
+        is = ap (λ F. make q F (rooted h₁ (suc k) o) (nodes h₁ k qs)) a ∙ ap (λ M. make q F M (nodes h₁ k qs)) b ∙ ap (make q F M) d ∙ e;
+      }
+    where
+      items_long : Tree I T → ℕ
+      items_long t = length (items t)
 
-    module _ {near far : Filled} {m : Root} (seen : SeenDeep h k front root near m far) where
-      -- what the tests y and z make of the level
-      abbrev changed : Bool → Bool → Tree I T
-      changed y z = choose y (make q (swap (replaced_node q x k) i (nodes h k (listed near))) (rooted h (suc k) m) (nodes h k (listed far)))
-          (choose z (make q (nodes h k (listed near)) (replaced q x (suc k) (i - count_run (nodes h k (listed near))) (rooted h (suc k) m)) (nodes h k (listed far)))
-          (make q (nodes h k (listed near)) (rooted h (suc k) m) (onto (swap (replaced_node q x k) (i - count_run (nodes h k (listed near)) - count (rooted h (suc k) m)) (onto (nodes h k (listed far)) [])) [])))
+  module _ {near far : Filled} {m : Root} (seen : SeenDeep h k front root near m far) where
+    -- what the tests y and z make of the level
+    abbrev changed : Bool → Bool → Tree I T
+    changed y z = choose y (make q (swap (replaced_node q x k) i (nodes h k (listed near))) (rooted h (suc k) m) (nodes h k (listed far)))
+        (choose z (make q (nodes h k (listed near)) (replaced q x (suc k) (i - count_run (nodes h k (listed near))) (rooted h (suc k) m)) (nodes h k (listed far)))
+        (make q (nodes h k (listed near)) (rooted h (suc k) m) (onto (swap (replaced_node q x k) (i - count_run (nodes h k (listed near)) - count (rooted h (suc k) m)) (onto (nodes h k (listed far)) [])) [])))
 
-      changed_is : (y z : Bool) → y ≡ ltb i (count_run (nodes h k (listed near))) → z ≡ ltb (i - count_run (nodes h k (listed near))) (count (rooted h (suc k) m)) → changed y z ≡ replaced q x k i (rooted h k root)
-      changed_is y z ey ez = ap (λ y. changed y z) ey ∙ ap (changed (ltb i (count_run (nodes h k (listed near))))) ez ∙ sym (ap (replaced q x k i) seen.is)
+    changed_is : (y z : Bool) → y ≡ ltb i (count_run (nodes h k (listed near))) → z ≡ ltb (i - count_run (nodes h k (listed near))) (count (rooted h (suc k) m)) → changed y z ≡ replaced q x k i (rooted h k root)
+    changed_is y z ey ez = ap (λ y. changed y z) ey ∙ ap (changed (ltb i (count_run (nodes h k (listed near))))) ez ∙ sym (ap (replaced q x k i) seen.is)
 
-      pub rebuilt_front : {h₁ : List (Cell I T)} {c : ℕ} (ps : List ℕ) → i < count_run (nodes h k (listed near)) → MadeRun h h₁ c k ps (swap (replaced_node q x k) i (nodes h k (listed near))) → Rebuilt q x h k root i h₁ f f₁ c ps m (listed far)
-      rebuilt_front ps n u = rebuilt ps m (listed far) (swap (replaced_node q x k) i (nodes h k (listed near))) (rooted h (suc k) m) (nodes h k (listed far)) u.grown (changed_is true _ (lt-true i (count_run (nodes h k (listed near))) n) refl) u.reads (keep_tree u.grown.extends m.levels (suc k) m.at seen.middle_formed) (keep_nodes u.grown.extends k (listed far) seen.far_formed)
+    pub rebuilt_front : {h₁ : List (Cell I T)} {c : ℕ} {ps : List ℕ} → i < count_run (nodes h k (listed near)) → MadeRun h h₁ c k ps (swap (replaced_node q x k) i (nodes h k (listed near))) → Rebuilt q x h k root i h₁ c ps m (listed far)
+    rebuilt_front {ps = ps} n u = rebuilt ps m (listed far) (swap (replaced_node q x k) i (nodes h k (listed near))) (rooted h (suc k) m) (nodes h k (listed far)) u.grown (changed_is true _ (lt-true i (count_run (nodes h k (listed near))) n) refl) u.reads (keep_tree u.grown.extends m.levels (suc k) m.at seen.middle_formed) (keep_nodes u.grown.extends k (listed far) seen.far_formed)
 
-      pub rebuilt_middle : {h₁ : List (Cell I T)} {c : ℕ} (k' : ℕ) (s : suc k ≡ k') (n : ℕ) → n ≡ count_run (nodes h k (listed near)) → n ≤ i → i - n < count (tree h m.levels k' m.at) → (o : Root) → MadeTree h h₁ c k' o (replaced q x k' (i - n) (tree h m.levels k' m.at)) → Rebuilt q x h k root i h₁ f f₁ c (listed near) o (listed far)
-      rebuilt_middle {h₁} k' s n e past l o u =
+    module _ (n : ℕ) (e : n ≡ count_run (nodes h k (listed near))) (past : n ≤ i) (k' : ℕ) (s : suc k ≡ k') where
+      pub rebuilt_middle : {h₁ : List (Cell I T)} {c : ℕ} (o : Root) → i - n < count (rooted h k' m) → MadeTree h h₁ c k' o (replaced q x k' (i - n) (rooted h k' m)) → Rebuilt q x h k root i h₁ c (listed near) o (listed far)
+      rebuilt_middle {h₁} o l u =
           let r = subst (λ j. rooted h₁ j o ≡ replaced q x j (i - n) (rooted h j m)) (sym s) u.reads ∙ ap (λ n. replaced q x (suc k) (i - n) (rooted h (suc k) m)) e in
           let y = subst (λ j. i - n < count (rooted h j m)) (sym s) l in
           rebuilt (listed near) o (listed far) (nodes h k (listed near)) (replaced q x (suc k) (i - count_run (nodes h k (listed near))) (rooted h (suc k) m)) (nodes h k (listed far)) u.grown (changed_is false true (le-false i (count_run (nodes h k (listed near))) (omega arith)) (lt-true (i - count_run (nodes h k (listed near))) (count (rooted h (suc k) m)) (subst (λ n. i - n < count (rooted h (suc k) m)) e y))) (keep_nodes u.grown.extends k (listed near) seen.near_formed) r (keep_nodes u.grown.extends k (listed far) seen.far_formed)
 
-      pub rebuilt_back : {h₁ : List (Cell I T)} {c : ℕ} (j : ℕ) → j ≡ i - count_run (nodes h k (listed near)) - count (rooted h (suc k) m) → count_run (nodes h k (listed near)) ≤ i → count (rooted h (suc k) m) ≤ i - count_run (nodes h k (listed near)) → (ts ps qs : List ℕ) → ts ≡ onto (listed far) [] → qs ≡ onto ps [] → MadeRun h h₁ c k ps (swap (replaced_node q x k) j (nodes h k ts)) → Rebuilt q x h k root i h₁ f f₁ c (listed near) m qs
-      rebuilt_back {h₁} j e past over ts ps qs turned again u =
-          rebuilt (listed near) m qs (nodes h k (listed near)) (rooted h (suc k) m) _ u.grown (changed_is false false (le-false i (count_run (nodes h k (listed near))) past) (le-false (i - count_run (nodes h k (listed near))) (count (rooted h (suc k) m)) over)) (keep_nodes u.grown.extends k (listed near) seen.near_formed) (keep_tree u.grown.extends m.levels (suc k) m.at seen.middle_formed) (ap (nodes h₁ k) again ∙ nodes_onto h₁ k ps [] ∙ ap (λ ns. onto ns []) (u.reads ∙ ap (λ j. swap (replaced_node q x k) j (nodes h k ts)) e ∙ ap (swap (replaced_node q x k) (i - count_run (nodes h k (listed near)) - count (rooted h (suc k) m))) (ap (nodes h k) turned ∙ nodes_onto h k (listed far) [])))
+      pub rebuilt_back : {h₁ : List (Cell I T)} {c : ℕ} {ps : List ℕ} (o : ℕ) → o ≡ count (rooted h k' m) → o ≤ i - n → (ts qs : List ℕ) → ts ≡ onto (listed far) [] → qs ≡ onto ps [] → MadeRun h h₁ c k ps (swap (replaced_node q x k) (i - n - o) (nodes h k ts)) → Rebuilt q x h k root i h₁ c (listed near) m qs
+      rebuilt_back {h₁} {ps = ps} o y over ts qs turned again u =
+          let b : o ≡ count (rooted h (suc k) m) = y ∙ sym (ap (λ j. count (rooted h j m)) s) in
+          let same : i - n - o ≡ i - count_run (nodes h k (listed near)) - count (rooted h (suc k) m) = rw (e, b) in
+          rebuilt (listed near) m qs (nodes h k (listed near)) (rooted h (suc k) m) _ u.grown (changed_is false false (le-false i (count_run (nodes h k (listed near))) (omega arith)) (le-false (i - count_run (nodes h k (listed near))) (count (rooted h (suc k) m)) (omega arith))) (keep_nodes u.grown.extends k (listed near) seen.near_formed) (keep_tree u.grown.extends m.levels (suc k) m.at seen.middle_formed) (turned_nodes h₁ k ps qs again ∙ ap (λ ns. onto ns []) (u.reads ∙ ap (λ j. swap (replaced_node q x k) j (nodes h k ts)) same ∙ ap (swap (replaced_node q x k) (i - count_run (nodes h k (listed near)) - count (rooted h (suc k) m))) (turned_nodes h k (listed far) ts turned)))

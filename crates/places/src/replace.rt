@@ -1,87 +1,27 @@
 // A tree with another item at a position.
-ghost use Rattle.std.specs.Prelude.{◌≡◌, suc, ◌+◌, ◌*◌, ◌^◌, ◌<◌, ◌≤◌, length, slice_set};
+ghost use Rattle.std.specs.Prelude.{◌≡◌, ◌+◌, ◌*◌, ◌^◌, ◌<◌, ◌≤◌, slice_set};
 ghost use Rattle.model.specs.Tree.{count_node, count_run, count, items};
-ghost use Rattle.model.specs.Replace.{swap, regroup, replaced_node};
+ghost use Rattle.model.specs.Replace.{swap, replaced_node};
 ghost use Rattle.model.specs.Replace.{replaced as replaced_tree};
 ghost use Rattle.model.specs.Forms.{FormedNode, Each, Formed};
 ghost use Rattle.cells.specs.Cells.{node, nodes, rooted};
 ghost use Rattle.cells.specs.Chain.{free_cells};
-ghost use Rattle.cells.specs.Fingers.{listed, listed_some};
-ghost use Rattle.cells.specs.Made.{MadeNode, MadeTree};
-ghost use Rattle.cells.specs.Made.{MadeRun};
+ghost use Rattle.cells.specs.Fingers.{listed};
+ghost use Rattle.cells.specs.Made.{MadeNode, MadeTree, MadeRun};
 
-use cells::build::{make_deep, make_single, make_three, make_two};
 use cells::arena::Arena;
+use cells::build::{make_deep, make_node, make_single};
 use cells::cell::{Body, Root};
-use cells::side::Side;
+use cells::digits::count_of;
 use cells::fingers::Digit;
 use cells::read::{weigh_run, weigh_tree};
+use cells::side::Side;
 use cells::view::View;
 use cuts::cut::cut_digit;
 use kinds::Kind;
 
-// How many fingers there are.
-pub fn many(digit: Option<Digit>) -> u8
-    ensures { result ≡ length (listed_some digit) }
-{
-    match digit {
-        Some(fingers) => fingers.count,
-        None => 0,
-    }
-}
-
-// The same fingers, but for one.
-pub fn with_finger(digit: Digit, i: u8, finger: u32) -> Digit
-    requires { i < length (listed digit) }
-    ensures { listed result ≡ slice_set (listed digit) i finger }
-{
-    let [a, b, c, d] = digit.at;
-    let count = digit.count;
-    if i == 0 {
-        return Digit {
-            count,
-            at: [finger, b, c, d],
-        };
-    }
-    if i == 1 {
-        return Digit {
-            count,
-            at: [a, finger, c, d],
-        };
-    }
-    if i == 2 {
-        return Digit {
-            count,
-            at: [a, b, finger, d],
-        };
-    }
-    Digit {
-        count,
-        at: [a, b, c, finger],
-    }
-}
-
-// Two or three fingers as one node.
-pub fn make_node<K: Kind>(
-    arena: &mut Arena<'_, K::Item, K::Total>,
-    level: u32,
-    digit: Digit,
-) -> u32
-    requires room { 0 < free_cells arena.old }
-    requires some { 2 ≤ digit.count }
-    requires few { digit.count ≤ 3 }
-    requires formed { Each level (nodes arena.old level (listed digit)) }
-    requires fits { count_run (nodes arena.old level (listed digit)) < 2 ^ 32 }
-    ensures { MadeNode arena.old arena.new 1 (suc level) result (regroup K.Kind.kind (nodes arena.old level (listed digit))) }
-{
-    let [a, b, c, _] = digit.at;
-    if digit.count == 2 {
-        return make_two::<K>(arena, level, a, b);
-    }
-    make_three::<K>(arena, level, a, b, c)
-}
-
 // A node with another item at a position.
+#[cycle(node)]
 pub fn replace_node<K: Kind>(
     arena: &mut Arena<'_, K::Item, K::Total>,
     level: u32,
@@ -99,13 +39,12 @@ pub fn replace_node<K: Kind>(
         return arena.take(Body::Item { item });
     }
     let parts = arena.parts(level - 1, Side::Front, at);
-    let cut = cut_digit::<K>(arena, level - 1, position, None, parts);
-    let below = replace_node::<K>(arena, level - 1, cut.finger, cut.offset, item);
-    let changed = with_finger(parts, many(cut.before), below);
+    let changed = replace_in::<K>(arena, level - 1, parts, position, item);
     make_node::<K>(arena, level - 1, changed)
 }
 
 // Fingers listed from the left, with another item at a position.
+#[cycle(node)]
 pub fn replace_in<K: Kind>(
     arena: &mut Arena<'_, K::Item, K::Total>,
     level: u32,
@@ -121,7 +60,7 @@ pub fn replace_in<K: Kind>(
 {
     let cut = cut_digit::<K>(arena, level, position, None, digit);
     let finger = replace_node::<K>(arena, level, cut.finger, cut.offset, item);
-    with_finger(digit, many(cut.before), finger)
+    digit.with_finger(count_of(cut.before), finger)
 }
 
 // A tree with another item at a position.
@@ -158,10 +97,8 @@ pub fn replace<K: Kind>(
                 let below = replace::<K>(arena, level + 1, middle, after, item);
                 return make_deep::<K>(arena, level, Side::Front, near, below, far);
             }
-            let turned = far.reversed();
-            let changed = replace_in::<K>(arena, level, turned, after - inner.items, item);
-            let back = changed.reversed();
-            make_deep::<K>(arena, level, Side::Front, near, middle, back)
+            let changed = replace_in::<K>(arena, level, far.reversed(), after - inner.items, item);
+            make_deep::<K>(arena, level, Side::Front, near, middle, changed.reversed())
         }
     }
 }

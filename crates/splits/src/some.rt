@@ -9,9 +9,9 @@ ghost use Rattle.cells.specs.Made.{MadeTree};
 ghost use Rattle.cells.specs.Fingers.{listed_some};
 
 use cells::arena::Arena;
-use cells::cell::{Root};
-use cells::side::Side;
+use cells::cell::{EMPTY, Root};
 use cells::fingers::Digit;
+use cells::side::Side;
 use ends::pop::tree_from;
 use kinds::Kind;
 

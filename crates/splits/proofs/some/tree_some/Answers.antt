@@ -1,13 +1,13 @@
 use Rattle.std.proofs.Common.{sym, refl, ap, ◌∙◌}
 use Rattle.model.specs.Ends.{tree_of}
 use Rattle.cells.specs.Cells.{end, nodes}
-use Rattle.cells.proofs.Opened.{tree_none}
 use Rattle.cells.specs.Fingers.{listed_some}
-use Rattle.ends.proofs.Popping.{grown_none}
+use Rattle.cells.proofs.Frames.{grown_none}
+use Rattle.cells.proofs.Opened.{tree_none}
 use Rattle.splits.proofs.some.tree_some.Goals as goal
 
 pub returns-in-None : goal.returns-in-None
 returns-in-None g c = record {
-  grown = grown_none 1 c.requires.sound;
+  grown = grown_none 1;
   reads = tree_none c.args.arena.now 0 c.args.level 0 refl ∙ sym (ap (λ run. tree_of g.K.Kind.kind (end c.args.side) (nodes c.args.arena.now c.args.level (listed_some run))) c.in-None.is);
 }

@@ -4,7 +4,7 @@ use Rattle.model.specs.Forms.{Formed}
 use Rattle.cells.specs.Cells.{tree, rooted}
 use Rattle.cells.specs.Fingers.{listed}
 use Rattle.cuts.proofs.Cutting.{cut_known, cut_sums}
-use Rattle.cuts.proofs.Finding.{back_ready, back_count}
+use Rattle.cells.proofs.Turned.{turned_formed, turned_count}
 use Rattle.splits.proofs.Descending.{squares, single_done, front_done, back_done, inner, inner_within, left_levels, right_levels, near_ready, far_ready, inner_fits, middle_done}
 use Rattle.splits.proofs.split.+split.Goals as goal
 
@@ -12,7 +12,7 @@ pub unreachable-requires : goal.unreachable-requires
 unreachable-requires g t c = omega (arith, ap count c.in-Empty.ensures.0, c.requires.within)
 
 pub returns-in-Single : goal.returns-in-Single
-returns-in-Single g t c = single_done g.K.Kind.kind c.args.arena.now c.args.free.now (c.args.root.levels * c.args.root.levels + c.args.root.levels) c.args.level c.in-Single.finger c.args.position (rooted c.args.arena.now c.args.level c.args.root) c.requires.sound c.in-Single.ensures.0
+returns-in-Single g t c = single_done g.K.Kind.kind c.args.arena.now (c.args.root.levels * c.args.root.levels + c.args.root.levels) c.args.level c.in-Single.finger c.args.position (rooted c.args.arena.now c.args.level c.args.root) c.in-Single.ensures.0
 
 pub weigh_run-first-requires : goal.weigh_run-first-requires
 weigh_run-first-requires g t c = record { formed = c.in-Deep.ensures.near_formed; fits = omega (arith, c.in-Deep.ensures.counts, c.requires.fits) }
@@ -21,21 +21,20 @@ weigh_run-first-requires g t c = record { formed = c.in-Deep.ensures.near_formed
 pub cut_digit-cut-requires : goal.cut_digit-cut-requires
 cut_digit-cut-requires g t c = record { few = omega (arith, c.in-Deep.near.filled.1); formed = c.in-Deep.ensures.near_formed; within = omega (arith, c.if-position-first.true, c.weigh_run-first.ensures.items_are) }
 
-pub halve_front-requires : goal.halve_front-requires
-halve_front-requires g t c =
+pub halve_at-requires : goal.halve_at-requires
+halve_at-requires g t c =
     let seen = c.in-Deep.ensures in
     let sq = squares c.in-Deep.middle.levels c.args.root.levels seen.levels in
     let w = cut_known c.args.arena.now c.args.level c.args.position (listed c.in-Deep.near) seen.near_formed (omega (arith, c.if-position-first.true, c.weigh_run-first.ensures.items_are)) c.cut_digit-cut.result c.cut_digit-cut.ensures in
     let s = cut_sums c.args.arena.now c.args.level c.args.position (listed c.in-Deep.near) seen.near_formed (omega (arith, c.if-position-first.true, c.weigh_run-first.ensures.items_are)) c.cut_digit-cut.result c.cut_digit-cut.ensures in
     record {
       room = omega (arith, sq, c.requires.room);
-     
       shallow = omega (arith, seen.levels, c.requires.shallow);
       before = w.before;
       here = w.here;
       after = w.after;
       middle = seen.middle_formed;
-      back = seen.far_formed;
+      far = seen.far_formed;
       fits = omega (arith, s, seen.counts, c.requires.fits);
     }
 
@@ -43,7 +42,7 @@ pub returns-then-position-first : goal.returns-then-position-first
 returns-then-position-first g t c =
     let seen = c.in-Deep.ensures in
     let sq = squares c.in-Deep.middle.levels c.args.root.levels seen.levels in
-    front_done g.K.Kind.kind c.args.arena.now c.args.level c.args.position c.args.root seen c.cut_digit-cut.result c.cut_digit-cut.ensures (c.args.root.levels * c.args.root.levels + c.args.root.levels) (omega (arith, c.if-position-first.true, c.weigh_run-first.ensures.items_are)) (omega (arith, sq)) c.halve_front.ensures
+    front_done g.K.Kind.kind c.args.arena.now c.args.level c.args.position c.args.root seen c.cut_digit-cut.result c.cut_digit-cut.ensures (c.args.root.levels * c.args.root.levels + c.args.root.levels) (omega (arith, c.if-position-first.true, c.weigh_run-first.ensures.items_are)) (omega (arith, sq)) c.halve_at.ensures
 
 pub weigh_tree-inner-requires : goal.weigh_tree-inner-requires
 weigh_tree-inner-requires g t c = subst (λ j. Formed j (rooted c.args.arena.now j c.in-Deep.middle)) (omega arith) c.in-Deep.ensures.middle_formed
@@ -57,7 +56,7 @@ split-halves-requires g t c κs within =
     let lower = seen.levels in
     let less : c.in-Deep.middle.levels < c.args.root.levels = omega arith in
     let n = ap (λ j. count (rooted c.args.arena.now j c.in-Deep.middle)) step in
-    (search rules, (within.0, (within.1.0, (within.1.1.0, (within.1.1.1, (omega (arith, sq, c.requires.room), (c.requires.sound, (omega (arith, c.requires.shallow), (subst (λ j. Formed j (rooted c.args.arena.now j c.in-Deep.middle)) step seen.middle_formed, (omega (arith, n, seen.counts, c.requires.fits), omega (arith, c.if-after-inner.true, c.weigh_tree-inner.ensures.items_are)))))))))))
+    (search rules, (within.0, (within.1.0, (within.1.1.0, (within.1.1.1, (omega (arith, sq, c.requires.room), (omega (arith, c.requires.shallow), (subst (λ j. Formed j (rooted c.args.arena.now j c.in-Deep.middle)) step seen.middle_formed, (omega (arith, n, seen.counts, c.requires.fits), omega (arith, c.if-after-inner.true, c.weigh_tree-inner.ensures.items_are))))))))))
 
 pub halve_below-requires : goal.halve_below-requires
 halve_below-requires g t c =
@@ -70,7 +69,6 @@ halve_below-requires g t c =
     let spent = c.split-halves.ensures.grown.spent in
     record {
       room = omega (arith, sq, l, r, spent, c.requires.room);
-     
       shallow = omega (arith, seen.levels, l, r, c.requires.shallow);
       front = near_ready g.K.Kind.kind c.args.arena.now c.args.level c.args.position c.args.root seen c.weigh_run-first.result.items c.weigh_run-first.ensures.items_are c.if-position-first.false (c.args.level + 1) step (omega (arith, c.if-after-inner.true, c.weigh_tree-inner.ensures.items_are)) c.split-halves.result c.split-halves.ensures;
       left = here.before;
@@ -96,33 +94,32 @@ cut_digit-cut-requires-in-Deep g t c =
     let seen = c.in-Deep.ensures in
     let step : suc c.args.level ≡ c.args.level + 1 = omega arith in
     let m = ap (λ j. count (rooted c.args.arena.now j c.in-Deep.middle)) step in
-    let n = back_count c.args.arena.now c.args.level c.args.root seen _ c.reversed.ensures in
+    let n = turned_count c.args.arena.now c.args.level (listed c.in-Deep.far) _ c.reversed.ensures in
     record {
       few = omega (arith, c.reversed.result.filled.1);
-      formed = back_ready c.args.arena.now c.args.level c.args.root seen _ c.reversed.ensures;
+      formed = turned_formed c.args.arena.now c.args.level (listed c.in-Deep.far) _ c.reversed.ensures seen.far_formed;
       within = omega (arith, n, m, seen.counts, c.requires.within, c.if-position-first.false, c.if-after-inner.false, c.weigh_run-first.ensures.items_are, c.weigh_tree-inner.ensures.items_are);
     }
 
-pub halve_back-requires : goal.halve_back-requires
-halve_back-requires g t c =
+pub halve_at-requires-in-Deep : goal.halve_at-requires-in-Deep
+halve_at-requires-in-Deep g t c =
     let seen = c.in-Deep.ensures in
     let step : suc c.args.level ≡ c.args.level + 1 = omega arith in
     let sq = squares c.in-Deep.middle.levels c.args.root.levels seen.levels in
     let m = ap (λ j. count (rooted c.args.arena.now j c.in-Deep.middle)) step in
-    let n = back_count c.args.arena.now c.args.level c.args.root seen _ c.reversed.ensures in
-    let v = back_ready c.args.arena.now c.args.level c.args.root seen _ c.reversed.ensures in
+    let n = turned_count c.args.arena.now c.args.level (listed c.in-Deep.far) _ c.reversed.ensures in
+    let v = turned_formed c.args.arena.now c.args.level (listed c.in-Deep.far) _ c.reversed.ensures seen.far_formed in
     let at = c.args.position - c.weigh_run-first.result.items - c.weigh_tree-inner.result.items in
     let w = cut_known c.args.arena.now c.args.level at (listed c.reversed.result) v (omega (arith, n, m, seen.counts, c.requires.within, c.if-position-first.false, c.if-after-inner.false, c.weigh_run-first.ensures.items_are, c.weigh_tree-inner.ensures.items_are)) c.cut_digit-cut-in-Deep.result c.cut_digit-cut-in-Deep.ensures in
     let s = cut_sums c.args.arena.now c.args.level at (listed c.reversed.result) v (omega (arith, n, m, seen.counts, c.requires.within, c.if-position-first.false, c.if-after-inner.false, c.weigh_run-first.ensures.items_are, c.weigh_tree-inner.ensures.items_are)) c.cut_digit-cut-in-Deep.result c.cut_digit-cut-in-Deep.ensures in
     record {
       room = omega (arith, sq, c.requires.room);
-     
       shallow = omega (arith, seen.levels, c.requires.shallow);
       before = w.before;
       here = w.here;
       after = w.after;
       middle = seen.middle_formed;
-      front = seen.near_formed;
+      far = seen.near_formed;
       fits = omega (arith, s, n, seen.counts, c.requires.fits);
     }
 
@@ -132,4 +129,4 @@ returns-else-after-inner g t c =
     let step : suc c.args.level ≡ c.args.level + 1 = omega arith in
     let sq = squares c.in-Deep.middle.levels c.args.root.levels seen.levels in
     let m = ap (λ j. count (rooted c.args.arena.now j c.in-Deep.middle)) step in
-    back_done g.K.Kind.kind c.args.arena.now c.args.level c.args.position c.args.root seen c.weigh_run-first.result.items c.weigh_run-first.ensures.items_are c.if-position-first.false c.weigh_tree-inner.result.items (c.weigh_tree-inner.ensures.items_are ∙ sym m) c.if-after-inner.false (listed c.reversed.result) c.reversed.ensures c.cut_digit-cut-in-Deep.result c.cut_digit-cut-in-Deep.ensures (c.args.root.levels * c.args.root.levels + c.args.root.levels) (omega (arith, sq)) c.halve_back.ensures
+    back_done g.K.Kind.kind c.args.arena.now c.args.level c.args.position c.args.root seen c.weigh_run-first.result.items c.weigh_run-first.ensures.items_are c.if-position-first.false c.weigh_tree-inner.result.items (c.weigh_tree-inner.ensures.items_are ∙ sym m) c.if-after-inner.false (listed c.reversed.result) c.reversed.ensures c.cut_digit-cut-in-Deep.result c.cut_digit-cut-in-Deep.ensures (c.args.root.levels * c.args.root.levels + c.args.root.levels) (omega (arith, sq)) c.halve_at-in-Deep.ensures
