@@ -1,17 +1,31 @@
 -- Where the item at a position is. Assumes nothing.
-use Rattle.std.proofs.Common.{◌≡◌, ℕ, suc, ◌-◌, ◌<◌, ◌≤◌, List, [], ◌++◌, length, get_or, sym, ap, ◌∙◌, append-nil, arith}
+use Rattle.std.proofs.Common.{◌≡◌, ℕ, suc, ◌-◌, ◌<◌, ◌≤◌, List, [], ◌++◌, length, get_or, sym, ap, ◌∙◌, subst, append-nil, arith}
 use Rattle.std.proofs.lemmas.List.{get_or_append_left, get_or-append_right}
-use Rattle.model.specs.Tree.{front, back, run, items, count_run, count}
+use Rattle.model.specs.Tree.{front, back, run, items, count_node, count_run, count}
+use Rattle.model.specs.Ends.{fingers}
 use Rattle.model.specs.Append.{onto}
+use Rattle.model.specs.Forms.{FormedNode, Each}
 use Rattle.model.proofs.Appending.{run_onto}
 use Rattle.model.proofs.Forms.{count_run_is, count_is}
-use Rattle.cells.specs.Cells.{nodes, rooted}
+use Rattle.model.proofs.Popping.{fingers_formed, count_fingers}
+use Rattle.cells.specs.Cells.{node, nodes, rooted}
 use Rattle.cells.specs.Fingers.{listed}
 use Rattle.cells.specs.Made.{SeenDeep}
 use Rattle.cells.specs.declared.cell.Cell.{Cell}
 use Rattle.cells.specs.declared.cell.Root.{Root}
 use Rattle.cells.specs.declared.fingers.Digit.{Digit as Filled}
 use Rattle.cells.proofs.Turned.{turned_nodes}
+
+-- the parts of a node, one level below
+module _ {I T : Type 0} (h : List (Cell I T)) (k k' p : ℕ) (s : suc k ≡ k') (w : FormedNode k' (node h k' p)) (ps : List ℕ) (e : nodes h k ps ≡ fingers front (node h (suc k) p)) where
+  node_down : FormedNode (suc k) (node h (suc k) p)
+  node_down = subst (λ j. FormedNode j (node h j p)) (sym s) w
+
+  pub parts_ready : Each k (nodes h k ps)
+  parts_ready = subst (Each k) (sym e) (fingers_formed front k (node h (suc k) p) node_down).0.1.1
+
+  pub parts_count : count_run (nodes h k ps) ≡ count_node (node h k' p)
+  parts_count = ap count_run e ∙ count_fingers front k (node h (suc k) p) node_down ∙ ap (λ j. count_node (node h j p)) s
 
 -- a level, from the left: the items at its front, in its middle and at its back
 module _ {I T : Type 0} (h : List (Cell I T)) (k : ℕ) (root : Root) {f b : Filled} {m : Root} (seen : SeenDeep h k front root f m b) (i : ℕ) (x : I) where

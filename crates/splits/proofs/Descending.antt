@@ -18,7 +18,6 @@ use Rattle.cells.specs.declared.fingers.Digit.{Digit as Filled}
 use Rattle.cells.proofs.Frames.{keep_nodes, grown_none, grown_more, grown_most}
 use Rattle.cells.proofs.Opened.{levels_read, tree_none}
 use Rattle.cuts.specs.Cuts.{cut_at}
-use Rattle.cells.specs.Fingers.{listed_some}
 use Rattle.cuts.specs.declared.cut.Split.{Split}
 use Rattle.splits.specs.Halves.{parts_at, MadeParts}
 use Rattle.cells.proofs.Turned.{nodes_onto}

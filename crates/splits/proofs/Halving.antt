@@ -6,7 +6,7 @@ use Rattle.kinds.specs.Algebra.{Algebra}
 use Rattle.model.specs.Ends.{other, tree_of, trim, pop}
 use Rattle.model.specs.Split.{cutting, parts}
 use Rattle.model.specs.Forms.{FormedNode, Each, Digit, Formed}
-use Rattle.cells.specs.Cells.{in_order, node, nodes, tree, rooted}
+use Rattle.cells.specs.Cells.{in_order, node, nodes, rooted}
 use Rattle.cells.specs.Fingers.{listed, listed_some}
 use Rattle.cells.specs.Chain.{Extends}
 use Rattle.cells.specs.Made.{MadeTree}

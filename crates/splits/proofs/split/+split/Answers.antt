@@ -1,25 +1,14 @@
-use Rattle.std.proofs.Common.{◌≡◌, suc, ◌+◌, ◌-◌, ◌*◌, ◌<◌, sym, ap, ◌∙◌, subst, arith, rules}
+use Rattle.std.proofs.Common.{◌≡◌, suc, ◌+◌, ◌-◌, ◌*◌, sym, ap, ◌∙◌, arith}
 use Rattle.model.specs.Tree.{count}
-use Rattle.model.specs.Forms.{Formed}
-use Rattle.cells.specs.Cells.{tree, rooted}
+use Rattle.cells.specs.Cells.{rooted}
 use Rattle.cells.specs.Fingers.{listed}
 use Rattle.cuts.proofs.Cutting.{cut_known, cut_sums}
 use Rattle.cells.proofs.Turned.{turned_formed, turned_count}
-use Rattle.splits.proofs.Descending.{squares, single_done, front_done, back_done, inner, inner_within, left_levels, right_levels, near_ready, far_ready, inner_fits, middle_done}
+use Rattle.splits.proofs.Descending.{squares, single_done, back_done, inner, inner_within, left_levels, right_levels, near_ready, far_ready, inner_fits, middle_done}
 use Rattle.splits.proofs.split.+split.Goals as goal
-
-pub unreachable-requires : goal.unreachable-requires
-unreachable-requires g t c = omega (arith, ap count c.in-Empty.ensures.0, c.requires.within)
 
 pub returns-in-Single : goal.returns-in-Single
 returns-in-Single g t c = single_done g.K.Kind.kind c.args.arena.now (c.args.root.levels * c.args.root.levels + c.args.root.levels) c.args.level c.in-Single.finger c.args.position (rooted c.args.arena.now c.args.level c.args.root) c.in-Single.ensures.0
-
-pub weigh_run-first-requires : goal.weigh_run-first-requires
-weigh_run-first-requires g t c = record { formed = c.in-Deep.ensures.near_formed; fits = omega (arith, c.in-Deep.ensures.counts, c.requires.fits) }
-
--- the level is cut at its front
-pub cut_digit-cut-requires : goal.cut_digit-cut-requires
-cut_digit-cut-requires g t c = record { few = omega (arith, c.in-Deep.near.filled.1); formed = c.in-Deep.ensures.near_formed; within = omega (arith, c.if-position-first.true, c.weigh_run-first.ensures.items_are) }
 
 pub halve_at-requires : goal.halve_at-requires
 halve_at-requires g t c =
@@ -37,26 +26,6 @@ halve_at-requires g t c =
       far = seen.far_formed;
       fits = omega (arith, s, seen.counts, c.requires.fits);
     }
-
-pub returns-then-position-first : goal.returns-then-position-first
-returns-then-position-first g t c =
-    let seen = c.in-Deep.ensures in
-    let sq = squares c.in-Deep.middle.levels c.args.root.levels seen.levels in
-    front_done g.K.Kind.kind c.args.arena.now c.args.level c.args.position c.args.root seen c.cut_digit-cut.result c.cut_digit-cut.ensures (c.args.root.levels * c.args.root.levels + c.args.root.levels) (omega (arith, c.if-position-first.true, c.weigh_run-first.ensures.items_are)) (omega (arith, sq)) c.halve_at.ensures
-
-pub weigh_tree-inner-requires : goal.weigh_tree-inner-requires
-weigh_tree-inner-requires g t c = subst (λ j. Formed j (rooted c.args.arena.now j c.in-Deep.middle)) (omega arith) c.in-Deep.ensures.middle_formed
-
--- the level is cut in its middle
-pub split-halves-requires : goal.split-halves-requires
-split-halves-requires g t c κs within =
-    let seen = c.in-Deep.ensures in
-    let step : suc c.args.level ≡ c.args.level + 1 = omega arith in
-    let sq = squares c.in-Deep.middle.levels c.args.root.levels seen.levels in
-    let lower = seen.levels in
-    let less : c.in-Deep.middle.levels < c.args.root.levels = omega arith in
-    let n = ap (λ j. count (rooted c.args.arena.now j c.in-Deep.middle)) step in
-    (search rules, (within.0, (within.1.0, (within.1.1.0, (within.1.1.1, (omega (arith, sq, c.requires.room), (omega (arith, c.requires.shallow), (subst (λ j. Formed j (rooted c.args.arena.now j c.in-Deep.middle)) step seen.middle_formed, (omega (arith, n, seen.counts, c.requires.fits), omega (arith, c.if-after-inner.true, c.weigh_tree-inner.ensures.items_are))))))))))
 
 pub halve_below-requires : goal.halve_below-requires
 halve_below-requires g t c =

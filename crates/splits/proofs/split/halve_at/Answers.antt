@@ -1,5 +1,4 @@
-use Rattle.std.proofs.Common.{suc, ◌+◌, sym, ◌∙◌, arith}
-use Rattle.model.specs.Tree.{count_run}
+use Rattle.std.proofs.Common.{suc, ◌+◌, arith}
 use Rattle.model.proofs.Popping.{tree_of_formed}
 use Rattle.cells.specs.Cells.{end, node, nodes, rooted}
 use Rattle.cells.specs.Fingers.{listed, listed_some}
