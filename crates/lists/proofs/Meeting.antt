@@ -6,11 +6,10 @@ use Rattle.model.specs.Tree.{none, items}
 use Rattle.model.specs.Forms.{Formed}
 use Rattle.model.specs.Seek.{missed, found, seek}
 use Rattle.model.specs.Statements.{Sound}
-use Rattle.cells.specs.Chain.{Sound as FreeSound}
 use Rattle.cells.specs.declared.cell.Cell.{Cell}
 use Rattle.cells.specs.declared.cell.Root.{Root}
 use Rattle.cells.proofs.Opened.{tree_none}
-use Rattle.ends.proofs.Popping.{grown_none}
+use Rattle.cells.proofs.Frames.{grown_none}
 use Rattle.lists.specs.Lists.{tree_at, list_at, Whole, Right, PartedBy, cut_place, place_of}
 use Rattle.lists.proofs.Roots.{whole_from}
 
@@ -21,13 +20,13 @@ module _ {I T Q : Type 0} (k : Algebra I T Q) (h : List (Cell I T)) where
   none_at : tree_at h nothing_left ≡ none
   none_at = tree_none h 0 0 0 refl
 
-  pub missed_made : (root : Root) (q : Q) (cost : ℕ) → FreeSound h f → Whole h root → (Right k h root → missed ≡ seek k q (list_at h root)) → PartedBy k h h f f cost q root (record { left = root; right = nothing_left })
-  missed_made f root q cost sound whole unmet =
+  pub missed_made : (root : Root) (q : Q) (cost : ℕ) → Whole h root → (Right k h root → missed ≡ seek k q (list_at h root)) → PartedBy k h h cost q root (record { left = root; right = nothing_left })
+  missed_made root q cost whole unmet =
       let n = length (list_at h root) in
       record {
         at = n;
         made = record {
-          grown = grown_none cost sound;
+          grown = grown_none cost;
           stays = λ old w. refl;
           left_whole = whole;
           left_list = sym (take_all n (list_at h root) (omega arith));

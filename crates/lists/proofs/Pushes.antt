@@ -10,7 +10,7 @@ use Rattle.model.proofs.Pushing.{push_formed, push_items, push_measures}
 use Rattle.model.proofs.Popping.{Came, Carried, popped, pop_weighed}
 use Rattle.model.proofs.Totals.{WeighedNode, weighed, sound}
 use Rattle.cells.specs.Cells.{leaf_of, node}
-use Rattle.cells.specs.Chain.{Taken}
+use Rattle.cells.specs.Chain.{Taken, free_cells}
 use Rattle.cells.specs.Made.{MadeTree}
 use Rattle.cells.specs.declared.cell.Body.TheVariants.{Item}
 use Rattle.cells.specs.declared.cell.Cell.{Cell}
@@ -47,7 +47,7 @@ module _ {I T Q : Type 0} (k : Algebra I T Q) (s : Side) {h h₁ : List (Cell I 
   depth : levels (push k s (leaf item) (tree_at h root)) ≤ most_levels (length (list_at h root) + 1)
   depth = rw (← long) (low_levels (push k s (leaf item) (tree_at h root)) formed)
 
-  pub push_room : 2 * most_levels (length (list_at h root) + 1) ≤ f.count → 2 * levels (push k s (node h₁ 0 x) (tree_at h₁ root)) ≤ f₁.count + 1
+  pub push_room : 2 * most_levels (length (list_at h root) + 1) ≤ free_cells h → 2 * levels (push k s (node h₁ 0 x) (tree_at h₁ root)) ≤ free_cells h₁ + 1
   push_room room = rw pushed_is (omega (arith, depth, t.grown.spent))
 
   pub push_shallow : root.levels < 64
@@ -90,15 +90,15 @@ module _ {I T Q : Type 0} (k : Algebra I T Q) (s : Side) (h : List (Cell I T)) (
       let c = subst (Came 0 s (tree_at h root)) (sym u.reads) came in
       some (sym (levels_read h root.levels 0 root.at (formed_at h root w)) ∙ c.0)
 
-  module _ {h' : List (Cell I T)} (x : Popped) (u : MadePop h h' root.levels 0 (Some x) (pop k s (tree_at h root))) where
-    got_well : Came 0 s (tree_at h root) (got (node h' 0 x.finger) (tree_at h' x.rest))
+  module _ {h' : List (Cell I T)} (x : Popped ℕ) (u : MadePop h h' root.levels 0 (Some x) (pop k s (tree_at h root))) where
+    got_well : Came 0 s (tree_at h root) (got (node h' 0 x.taken) (tree_at h' x.rest))
     got_well = subst (Came 0 s (tree_at h root)) (sym u.reads) came
 
-    pub finger_ready : FormedNode 0 (node h' 0 x.finger)
+    pub finger_ready : FormedNode 0 (node h' 0 x.taken)
     finger_ready = got_well.0
 
-    module _ (item : I) (is : node h' 0 x.finger ≡ leaf item) where
-      pub took : Took h h' f f' root.levels s (list_at h root) item x.rest
+    module _ (item : I) (is : node h' 0 x.taken ≡ leaf item) where
+      pub took : Took h h' root.levels s (list_at h root) item x.rest
       took =
           record {
             rest = list_at h' x.rest;

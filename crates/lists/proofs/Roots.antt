@@ -54,7 +54,7 @@ module _ {I T : Type 0} {h h' : List (Cell I T)} where
 
   -- what was made of a formed tree, as a list
   pub made_from : {c : ℕ} {r : Root} {t : Tree I T} (most : ℕ) (xs : List I) → MadeTree h h' c 0 r t → Formed 0 t → items t ≡ xs → c ≤ most → Made h h' most r xs
-  made_from {f} {f'} {c} {r} {t} most xs u w e l =
+  made_from {c} {r} {t} most xs u w e l =
       record {
         grown = grown_most most u.grown l;
         stays = stays_from u.grown.extends;

@@ -4,12 +4,12 @@ use Rattle.kinds.specs.Algebra.{Algebra}
 use Rattle.model.specs.Tree.{Tree, Side, along, formed, items}
 use Rattle.model.specs.Seek.{Sought, missed, found, seek}
 use Rattle.model.specs.Statements.{Sound}
-use Rattle.cells.specs.Cells.{tree, rooted}
+use Rattle.cells.specs.Cells.{rooted}
 use Rattle.cells.specs.Chain.{Grown}
 use Rattle.cells.specs.declared.cell.Cell.{Cell}
 use Rattle.cells.specs.declared.cell.Root.{Root}
 use Rattle.lists.specs.declared.halves.Halves.{Halves}
-use Rattle.lists.specs.declared.taken.Taken.{Taken}
+use Rattle.ends.specs.declared.pop.Popped.{Popped}
 
 -- Where a list is cut by what was sought: at its end where nothing was found.
 abbrev pub place_of : {T : Type 0} → ℕ → Sought T → ℕ
@@ -54,14 +54,14 @@ module _ {I T : Type 0} where
     pub made : Made h h' cost r rest
     pub was : xs ≡ along side (item ∷ []) rest
 
-  abbrev pub Given : List (Cell I T) → List (Cell I T) → FreeList → FreeList → ℕ → Side → List I → Option (Taken I) → Type 0
-  Given h h' cost side xs None = (xs ≡ []) × (h' ≡ h) × (free' ≡ free)
-  Given h h' cost side xs (Some t) = Took h h' free free' cost side xs t.item t.rest
+  abbrev pub Given : List (Cell I T) → List (Cell I T) → ℕ → Side → List I → Option (Popped I) → Type 0
+  Given h h' cost side xs None = (xs ≡ []) × (h' ≡ h)
+  Given h h' cost side xs (Some t) = Took h h' cost side xs t.taken t.rest
 
   -- Totals stay right.
-  abbrev pub GivenRight : {Q : Type 0} → Algebra I T Q → List (Cell I T) → Option (Taken I) → Type 0
+  abbrev pub GivenRight : {Q : Type 0} → Algebra I T Q → List (Cell I T) → Option (Popped I) → Type 0
   GivenRight k h None = Unit {0}
-  GivenRight k h (Some t) = Right k h t.rest × (k.admitted t.item ≡ true)
+  GivenRight k h (Some t) = Right k h t.rest × (k.admitted t.taken ≡ true)
 
   -- A list in two somewhere, and where totals are right, at the item by which the question is first met: all before it, and the rest.
   abbrev pub cut_place : {Q : Type 0} → Algebra I T Q → Q → List I → ℕ

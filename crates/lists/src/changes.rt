@@ -4,7 +4,7 @@ ghost use Rattle.cells.specs.Chain.{free_cells};
 ghost use Rattle.lists.specs.Lists.{list_at, Whole, Right, Made};
 
 use cells::arena::Arena;
-use cells::cell::{Root};
+use cells::cell::Root;
 use kinds::Kind;
 
 /// The list with another item at a position: at most two cells for each level.

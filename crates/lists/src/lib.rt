@@ -1,7 +1,7 @@
 // Lists in cells: what is done with a root, by the list that it stands for.
 //
-// Each function takes the lent cells and their free list. Cells in use are never written, so that every other root
-// reads as before; a result shares what it can with its sources.
+// Each function takes the arena of the lent cells. Cells in use are never written, so that every other root reads as
+// before; a result shares what it can with its sources.
 #![tactic(auto)]
 
 mod changes;
@@ -11,13 +11,12 @@ mod positions;
 mod reads;
 mod seeking;
 mod sides;
-mod taken;
 
 pub use changes::replace;
+pub use ends::pop::Popped;
 pub use halves::Halves;
 pub use joining::join;
 pub use positions::{item, split_at};
 pub use reads::{length, total};
 pub use seeking::{seek, split_by};
 pub use sides::{pop, push};
-pub use taken::Taken;

@@ -5,7 +5,7 @@ ghost use Rattle.lists.specs.Lists.{list_at, Whole, Right, MadeTwo};
 
 use super::halves::Halves;
 use cells::arena::Arena;
-use cells::cell::{Root};
+use cells::cell::Root;
 use cells::side::Side;
 use kinds::Kind;
 
@@ -32,10 +32,10 @@ pub fn split_at<K: Kind>(
     ensures made { MadeTwo arena.old arena.new (root.levels * root.levels + 3 * root.levels) result (take position (list_at arena.old root)) (drop position (list_at arena.old root)) }
     ensures right { Right K.Kind.kind arena.old root → Right K.Kind.kind arena.new result.left × Right K.Kind.kind arena.new result.right }
 {
-    let halves = splits::split::split::<K>(arena, 0, root, position);
-    let right = ends::push::push::<K>(arena, 0, Side::Front, halves.right, halves.finger);
+    let parts = splits::split::split::<K>(arena, 0, root, position);
+    let right = ends::push::push::<K>(arena, 0, Side::Front, parts.after, parts.finger);
     Halves {
-        left: halves.left,
+        left: parts.before,
         right,
     }
 }

@@ -4,7 +4,7 @@ ghost use Rattle.model.specs.Measures.{total as sum};
 ghost use Rattle.lists.specs.Lists.{list_at, Whole, Right};
 
 use cells::arena::Arena;
-use cells::cell::{Root};
+use cells::cell::Root;
 use cells::read::weigh_tree;
 use kinds::Kind;
 

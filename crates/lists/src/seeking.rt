@@ -8,9 +8,9 @@ ghost use Rattle.lists.specs.Lists.{list_at, Whole, Right, PartedBy};
 use super::halves::Halves;
 use super::positions::split_at;
 use cells::arena::Arena;
-use cells::cell::{Root};
+use cells::cell::{EMPTY, Root};
 use kinds::Kind;
-use seeks::seek::Sought;
+use seeks::seek::Found;
 
 /// The least position whose items up to it meet the question, and what those before it come to, or that none is.
 /// A question is put to totals of at least one item.
@@ -18,7 +18,7 @@ pub fn seek<K: Kind>(
     arena: &Arena<'_, K::Item, K::Total>,
     root: Root,
     question: K::Question,
-) -> Sought<K::Total>
+) -> Option<Found<K::Total>>
     requires whole { Whole arena.now root }
     requires fits { length (list_at arena.now root) < 2 ^ 32 }
     ensures right { Right K.Kind.kind arena.now root → sought result ≡ first_met K.Kind.kind question (list_at arena.now root) }
@@ -41,13 +41,10 @@ pub fn split_by<K: Kind>(
     ensures right { Right K.Kind.kind arena.old root → Right K.Kind.kind arena.new result.left × Right K.Kind.kind arena.new result.right }
 {
     match seek::<K>(arena, root, question) {
-        Sought::Missed => Halves {
+        None => Halves {
             left: root,
             right: EMPTY,
         },
-        Sought::Found {
-            position,
-            before: _,
-        } => split_at::<K>(arena, root, position),
+        Some(found) => split_at::<K>(arena, root, found.position),
     }
 }

@@ -6,10 +6,10 @@ ghost use Rattle.cells.specs.Cells.{end};
 ghost use Rattle.cells.specs.Chain.{free_cells};
 ghost use Rattle.lists.specs.Lists.{list_at, Whole, Right, Made, Given, GivenRight};
 
-use super::taken::Taken;
 use cells::arena::Arena;
 use cells::cell::{Body, Root};
 use cells::side::Side;
+use ends::pop::Popped;
 use kinds::Kind;
 
 /// The list with one item more at a side: at most two cells for each level of the result.
@@ -34,7 +34,7 @@ pub fn pop<K: Kind>(
     arena: &mut Arena<'_, K::Item, K::Total>,
     side: Side,
     root: Root,
-) -> Option<Taken<K::Item>>
+) -> Option<Popped<K::Item>>
     requires room { root.levels ≤ free_cells arena.old }
     requires whole { Whole arena.old root }
     requires fits { length (list_at arena.old root) < 2 ^ 32 }
@@ -44,14 +44,11 @@ pub fn pop<K: Kind>(
     if root.levels == 0 {
         return None;
     }
-    match ends::pop::pop::<K>(arena, 0, side, root) {
-        None => unreachable(),
-        Some(popped) => {
-            let item = arena.item(popped.finger);
-            Some(Taken {
-                item,
-                rest: popped.rest,
-            })
-        }
-    }
+    let Some(popped) = ends::pop::pop::<K>(arena, 0, side, root) else {
+        unreachable();
+    };
+    Some(Popped {
+        taken: arena.item(popped.taken),
+        rest: popped.rest,
+    })
 }

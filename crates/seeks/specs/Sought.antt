@@ -1,19 +1,17 @@
 -- What is sought, as the code gives it. Assumes nothing.
-use Rattle.std.specs.Prelude.{◌≡◌, ℕ, ◌<◌, List}
+use Rattle.std.specs.Prelude.{◌≡◌, ℕ, ◌<◌, List, Option, Some, None}
 use Rattle.kinds.specs.Algebra.{Algebra}
-use Rattle.model.specs.Seek.{missed, found, seek, Alike}
-use Rattle.model.specs.Seek.{Sought as Seeking}
-use Rattle.seeks.specs.declared.seek.Sought.{Sought}
-use Rattle.seeks.specs.declared.seek.Sought.TheVariants.{Missed, Found}
+use Rattle.model.specs.Seek.{Sought, missed, found, seek, Alike}
+use Rattle.seeks.specs.declared.seek.Found.{Found}
 
-abbrev pub sought : {T : Type 0} → Sought T → Seeking T
-sought Missed = missed
-sought (Found p t) = found p t
+abbrev pub sought : {T : Type 0} → Option (Found T) → Sought T
+sought None = missed
+sought (Some f) = found f.position f.before
 
 -- a position below n
-abbrev pub Inside : {T : Type 0} → ℕ → Sought T → Type 0
-Inside n Missed = Unit {0}
-Inside n (Found p t) = p < n
+abbrev pub Inside : {T : Type 0} → ℕ → Option (Found T) → Type 0
+Inside n None = Unit {0}
+Inside n (Some f) = f.position < n
 
 abbrev pub AlikeSought : {I T Q : Type 0} → Algebra I T Q → Type 0
 AlikeSought {I = I} {Q = Q} k = (q : Q) (xs ys : List I) → Alike k xs ys → seek k q xs ≡ seek k q ys

@@ -9,15 +9,15 @@ ghost use Rattle.seeks.specs.Sought.{sought, Inside, AlikeSought};
 
 use super::spot::locate;
 use cells::arena::Arena;
-use cells::cell::{Root};
+use cells::cell::{Root, Weight};
 use cells::read::weigh_tree;
 use kinds::Kind;
 
 // The least position j such that the first j + 1 items meet a question, and what the first j come to.
 #[derive(Clone, Copy)]
-pub enum Sought<T> {
-    Missed,
-    Found { position: u32, before: T },
+pub struct Found<T> {
+    pub position: u32,
+    pub before: T,
 }
 
 // The question is put to totals of at least one item.
@@ -25,7 +25,7 @@ pub fn seek<K: Kind>(
     arena: &Arena<'_, K::Item, K::Total>,
     question: K::Question,
     root: Root,
-) -> Sought<K::Total>
+) -> Option<Found<K::Total>>
     requires shallow { root.levels < 64 }
     requires formed { Formed 0 (rooted arena.now 0 root) }
     requires fits { count (rooted arena.now 0 root) < 2 ^ 32 }
@@ -33,22 +33,24 @@ pub fn seek<K: Kind>(
     ensures within { Inside (count (rooted arena.now 0 root)) result }
 {
     if root.levels == 0 {
-        return Sought::Missed;
+        return None;
     }
     let whole = weigh_tree::<K>(arena, 0, root);
     if !K::meets(whole.total, question) {
-        return Sought::Missed;
+        return None;
     }
-    let spot = locate::<K>(arena, 0, question, 0, K::nothing(), root);
-    Sought::Found {
-        position: spot.position,
-        before: spot.before,
-    }
+    let nothing = Weight {
+        total: K::nothing(),
+        items: 0,
+    };
+    let spot = locate::<K>(arena, 0, question, nothing, root);
+    Some(Found {
+        position: spot.passed.items,
+        before: spot.passed.total,
+    })
 }
 
 // Items that measure alike give the same answer.
-pub fn alike_sought<K: Kind>() -> u8
+pub fn alike_sought<K: Kind>()
     ensures { AlikeSought K.Kind.kind }
-{
-    0
-}
+{}

@@ -7,57 +7,42 @@ ghost use Rattle.cells.specs.Fingers.{listed};
 ghost use Rattle.seeks.specs.Spots.{SpottedRun, SpottedTree};
 
 use cells::arena::Arena;
-use cells::cell::{Root};
-use cells::side::Side;
-use cells::digits;
+use cells::cell::{Root, Weight};
 use cells::fingers::Digit;
-use cells::read::{weigh, weigh_run, weigh_tree};
+use cells::read::{toward, weigh, weigh_run, weigh_tree};
+use cells::side::Side;
 use cells::view::View;
 use kinds::Kind;
 
-// A finger, how many items stand before it, and what they come to.
+// A finger, and what the items before it come to.
 #[derive(Clone, Copy)]
 pub struct Spot<T> {
     pub finger: u32,
-    pub position: u32,
-    pub before: T,
+    pub passed: Weight<T>,
 }
 
-// The first finger by which the question is met, or the last, of fingers listed from the left. `position` items stand before them, which come to `before`.
+// The first finger by which the question is met, or the last, of fingers listed from the left; `passed` stands before
+// them.
 pub fn spot_digit<K: Kind>(
     arena: &Arena<'_, K::Item, K::Total>,
     level: u32,
     question: K::Question,
-    position: u32,
-    before: K::Total,
+    passed: Weight<K::Total>,
     digit: Digit,
 ) -> Spot<K::Total>
     requires formed { Each level (nodes arena.now level (listed digit)) }
-    requires fits { position + count_run (nodes arena.now level (listed digit)) < 2 ^ 32 }
-    ensures { SpottedRun K.Kind.kind arena.now level question position before (nodes arena.now level (listed digit)) result }
+    requires fits { passed.items + count_run (nodes arena.now level (listed digit)) < 2 ^ 32 }
+    ensures { SpottedRun K.Kind.kind arena.now level question passed (nodes arena.now level (listed digit)) result }
 {
-    let finger = digits::finger(digit, 0);
-    let here = Spot {
-        finger,
-        position,
-        before,
-    };
-    match digits::rest(digit) {
-        None => here,
-        Some(others) => {
-            let weight = weigh::<K>(arena, level, finger);
-            let next = K::join(before, weight.total);
-            if K::meets(next, question) {
-                return here;
-            }
-            spot_digit::<K>(arena, level,
-                question,
-                position + weight.items,
-                next,
-                others,
-            )
+    let (finger, rest) = digit.split_first();
+    if let Some(others) = rest {
+        let weight = weigh::<K>(arena, level, finger);
+        let next = toward::<K>(Side::Front, passed, weight);
+        if !K::meets(next.total, question) {
+            return spot_digit::<K>(arena, level, question, next, others);
         }
     }
+    Spot { finger, passed }
 }
 
 // The finger of a level in which the question is first met, or the last; the tree is not empty.
@@ -65,46 +50,32 @@ pub fn locate<K: Kind>(
     arena: &Arena<'_, K::Item, K::Total>,
     level: u32,
     question: K::Question,
-    position: u32,
-    before: K::Total,
+    passed: Weight<K::Total>,
     root: Root,
 ) -> Spot<K::Total>
     requires some { 0 < root.levels }
     requires shallow { level + root.levels < 64 }
     requires formed { Formed level (rooted arena.now level root) }
-    requires fits { position + count (rooted arena.now level root) < 2 ^ 32 }
-    ensures { SpottedTree K.Kind.kind arena.now level question position before (rooted arena.now level root) result }
+    requires fits { passed.items + count (rooted arena.now level root) < 2 ^ 32 }
+    ensures { SpottedTree K.Kind.kind arena.now level question passed (rooted arena.now level root) result }
 {
     match arena.view(level, Side::Front, root) {
         View::Empty => unreachable(),
-        View::Single { finger } => Spot {
-            finger,
-            position,
-            before,
-        },
+        View::Single { finger } => Spot { finger, passed },
         View::Deep { near, middle, far } => {
             let first = weigh_run::<K>(arena, level, Side::Front, near);
-            let inside = K::join(before, first.total);
-            if K::meets(inside, question) {
-                return spot_digit::<K>(arena, level, question, position, before, near);
-            }
-            let place = position + first.items;
-            if middle.levels == 0 {
-                return spot_digit::<K>(arena, level, question, place, inside, far.reversed());
+            let inside = toward::<K>(Side::Front, passed, first);
+            if K::meets(inside.total, question) {
+                return spot_digit::<K>(arena, level, question, passed, near);
             }
             let inner = weigh_tree::<K>(arena, level + 1, middle);
-            let past = K::join(inside, inner.total);
-            if K::meets(past, question) {
-                let below = locate::<K>(arena, level + 1, question, place, inside, middle);
+            let past = toward::<K>(Side::Front, inside, inner);
+            if middle.levels > 0 && K::meets(past.total, question) {
+                let below = locate::<K>(arena, level + 1, question, inside, middle);
                 let parts = arena.parts(level, Side::Front, below.finger);
-                return spot_digit::<K>(arena, level, question, below.position, below.before, parts);
+                return spot_digit::<K>(arena, level, question, below.passed, parts);
             }
-            spot_digit::<K>(arena, level,
-                question,
-                place + inner.items,
-                past,
-                far.reversed(),
-            )
+            spot_digit::<K>(arena, level, question, past, far.reversed())
         }
     }
 }

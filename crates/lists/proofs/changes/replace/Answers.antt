@@ -12,7 +12,6 @@ replace-requires g c =
     let n = count_at c.args.arena.now c.args.root c.requires.whole in
     record {
       room = omega (arith, c.requires.room);
-     
       shallow = omega (arith, root_shallow g.K.Kind.kind c.args.arena.now c.args.root c.requires.whole c.requires.fits);
       formed = formed_at c.args.arena.now c.args.root c.requires.whole;
       fits = omega (arith, n, c.requires.fits);

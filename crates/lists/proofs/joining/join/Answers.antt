@@ -10,7 +10,6 @@ append-requires g c =
     let levels = join_levels g.K.Kind.kind h c.args.left c.args.right c.requires.left c.requires.right in
     record {
       room = omega (arith, levels, c.requires.room);
-     
       shallow = omega (arith, join_shallow g.K.Kind.kind h c.args.left c.args.right c.requires.left c.requires.right c.requires.fits);
       left = formed_at h c.args.left c.requires.left;
       loose = tt;

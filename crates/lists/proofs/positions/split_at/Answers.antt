@@ -3,12 +3,11 @@ use Rattle.lists.proofs.Roots.{formed_at, count_at}
 use Rattle.lists.proofs.Parting.{root_shallow, finger_ready, right_ready, push_room, right_shallow, push_fits, parted_made, parted_right}
 use Rattle.lists.proofs.positions.split_at.Goals as goal
 
-pub split-halves-requires : goal.split-halves-requires
-split-halves-requires g c =
+pub split-parts-requires : goal.split-parts-requires
+split-parts-requires g c =
     let n = count_at c.args.arena.now c.args.root c.requires.whole in
     record {
       room = omega (arith, c.requires.room);
-     
       shallow = omega (arith, root_shallow g.K.Kind.kind c.args.arena.now c.args.root c.requires.whole c.requires.fits);
       formed = formed_at c.args.arena.now c.args.root c.requires.whole;
       fits = omega (arith, n, c.requires.fits);
@@ -18,17 +17,16 @@ split-halves-requires g c =
 pub push-right-requires : goal.push-right-requires
 push-right-requires g c =
     record {
-      room = push_room g.K.Kind.kind c.args.arena.now c.args.root c.requires.whole c.requires.fits c.args.position c.requires.within c.split-halves.result c.split-halves.ensures c.requires.room;
-     
-      shallow = omega (arith, right_shallow g.K.Kind.kind c.args.arena.now c.args.root c.requires.whole c.requires.fits c.args.position c.requires.within c.split-halves.result c.split-halves.ensures);
-      formed = right_ready g.K.Kind.kind c.args.arena.now c.args.root c.requires.whole c.requires.fits c.args.position c.requires.within c.split-halves.result c.split-halves.ensures;
-      finger = finger_ready g.K.Kind.kind c.args.arena.now c.args.root c.requires.whole c.requires.fits c.args.position c.requires.within c.split-halves.result c.split-halves.ensures;
-      fits = push_fits g.K.Kind.kind c.args.arena.now c.args.root c.requires.whole c.requires.fits c.args.position c.requires.within c.split-halves.result c.split-halves.ensures;
+      room = push_room g.K.Kind.kind c.args.arena.now c.args.root c.requires.whole c.requires.fits c.args.position c.requires.within c.split-parts.result c.split-parts.ensures c.requires.room;
+      shallow = omega (arith, right_shallow g.K.Kind.kind c.args.arena.now c.args.root c.requires.whole c.requires.fits c.args.position c.requires.within c.split-parts.result c.split-parts.ensures);
+      formed = right_ready g.K.Kind.kind c.args.arena.now c.args.root c.requires.whole c.requires.fits c.args.position c.requires.within c.split-parts.result c.split-parts.ensures;
+      finger = finger_ready g.K.Kind.kind c.args.arena.now c.args.root c.requires.whole c.requires.fits c.args.position c.requires.within c.split-parts.result c.split-parts.ensures;
+      fits = push_fits g.K.Kind.kind c.args.arena.now c.args.root c.requires.whole c.requires.fits c.args.position c.requires.within c.split-parts.result c.split-parts.ensures;
     }
 
 pub returns : goal.returns
 returns g c =
     record {
-      made = parted_made g.K.Kind.kind c.args.arena.now c.args.root c.requires.whole c.requires.fits c.args.position c.requires.within c.split-halves.result c.split-halves.ensures c.push-right.ensures;
-      right = parted_right g.K.Kind.kind c.args.arena.now c.args.root c.requires.whole c.requires.fits c.args.position c.requires.within c.split-halves.result c.split-halves.ensures c.push-right.ensures g.met.K.Kind.lawful;
+      made = parted_made g.K.Kind.kind c.args.arena.now c.args.root c.requires.whole c.requires.fits c.args.position c.requires.within c.split-parts.result c.split-parts.ensures c.push-right.ensures;
+      right = parted_right g.K.Kind.kind c.args.arena.now c.args.root c.requires.whole c.requires.fits c.args.position c.requires.within c.split-parts.result c.split-parts.ensures c.push-right.ensures g.met.K.Kind.lawful;
     }

@@ -5,27 +5,26 @@ use Rattle.lists.proofs.Pushes.{pop_shallow, none_left, never_none, finger_ready
 use Rattle.lists.proofs.sides.pop.Goals as goal
 
 pub returns-then-root-eq0 : goal.returns-then-root-eq0
-returns-then-root-eq0 g c = record { given = (none_left g.K.Kind.kind (end c.args.side) c.args.arena.now c.args.root c.requires.whole c.if-root-eq0.true, refl, refl); right = λ _. tt }
+returns-then-root-eq0 g c = record { given = (none_left g.K.Kind.kind (end c.args.side) c.args.arena.now c.args.root c.requires.whole c.if-root-eq0.true, refl); right = λ _. tt }
 
 pub pop-requires : goal.pop-requires
 pop-requires g c =
     record {
       room = c.requires.room;
-     
       shallow = omega (arith, pop_shallow g.K.Kind.kind (end c.args.side) c.args.arena.now c.args.root c.requires.whole c.requires.fits);
       formed = formed_at c.args.arena.now c.args.root c.requires.whole;
       fits = omega (arith, count_at c.args.arena.now c.args.root c.requires.whole, c.requires.fits);
     }
 
 pub unreachable-requires : goal.unreachable-requires
-unreachable-requires g c = never_none g.K.Kind.kind (end c.args.side) c.args.arena.now c.args.root c.requires.whole c.if-root-eq0.false c.in-None.ensures
+unreachable-requires g c = never_none g.K.Kind.kind (end c.args.side) c.args.arena.now c.args.root c.requires.whole c.if-root-eq0.false c.in_default.ensures
 
-pub read_item-item-requires : goal.read_item-item-requires
-read_item-item-requires g c = finger_ready g.K.Kind.kind (end c.args.side) c.args.arena.now c.args.root c.requires.whole c.in-Some.popped c.in-Some.ensures
+pub item-requires : goal.item-requires
+item-requires g c = finger_ready g.K.Kind.kind (end c.args.side) c.args.arena.now c.args.root c.requires.whole c.in-Some.popped c.in-Some.ensures
 
 pub returns : goal.returns
 returns g c =
     record {
-      given = took g.K.Kind.kind (end c.args.side) c.args.arena.now c.args.root c.requires.whole c.in-Some.popped c.in-Some.ensures c.read_item-item.result c.read_item-item.ensures;
-      right = took_right g.K.Kind.kind (end c.args.side) c.args.arena.now c.args.root c.requires.whole c.in-Some.popped c.in-Some.ensures c.read_item-item.result c.read_item-item.ensures g.met.K.Kind.lawful;
+      given = took g.K.Kind.kind (end c.args.side) c.args.arena.now c.args.root c.requires.whole c.in-Some.popped c.in-Some.ensures c.item.result c.item.ensures;
+      right = took_right g.K.Kind.kind (end c.args.side) c.args.arena.now c.args.root c.requires.whole c.in-Some.popped c.in-Some.ensures c.item.result c.item.ensures g.met.K.Kind.lawful;
     }

@@ -5,15 +5,14 @@ use Rattle.lists.proofs.Roots.{some_most}
 use Rattle.lists.proofs.Pushes.{push_room, push_shallow, root_ready, item_ready, push_fits, pushed_made, pushed_right}
 use Rattle.lists.proofs.sides.push.Goals as goal
 
-pub take_cell-finger-requires : goal.take_cell-finger-requires
-take_cell-finger-requires g c = record { used = refl; some = omega (arith, some_most (length (list_at c.args.arena.now c.args.root)), c.requires.room); sound = c.requires.sound }
+pub take-finger-requires : goal.take-finger-requires
+take-finger-requires g c = record { used = refl; some = omega (arith, some_most (length (list_at c.args.arena.now c.args.root)), c.requires.room) }
 
 pub push-requires : goal.push-requires
 push-requires g c =
-    let t = c.take_cell-finger.ensures in
+    let t = c.take-finger.ensures in
     record {
       room = push_room g.K.Kind.kind (end c.args.side) c.args.item c.args.root c.requires.whole c.requires.fits t c.requires.room;
-     
       shallow = omega (arith, push_shallow g.K.Kind.kind (end c.args.side) c.args.item c.args.root c.requires.whole c.requires.fits t);
       formed = root_ready g.K.Kind.kind (end c.args.side) c.args.item c.args.root c.requires.whole c.requires.fits t;
       finger = item_ready g.K.Kind.kind (end c.args.side) c.args.item c.args.root c.requires.whole c.requires.fits t;
@@ -22,7 +21,7 @@ push-requires g c =
 
 pub returns : goal.returns
 returns g c =
-    let t = c.take_cell-finger.ensures in
+    let t = c.take-finger.ensures in
     record {
       made = pushed_made g.K.Kind.kind (end c.args.side) c.args.item c.args.root c.requires.whole c.requires.fits t c.push.ensures;
       right = pushed_right g.K.Kind.kind (end c.args.side) c.args.item c.args.root c.requires.whole c.requires.fits t c.push.ensures g.met.K.Kind.lawful;
