@@ -1,8 +1,8 @@
 // The lent cells with the list of the free ones, and the taking of a free cell.
-ghost use Rattle.std.specs.Prelude.{◌≡◌, ◌<◌, List, false};
+ghost use Rattle.std.specs.Prelude.{◌≡◌, ◌^◌, ◌<◌, List, length, false};
 ghost use Rattle.cells.specs.Cells.{is_free};
 ghost use Rattle.cells.specs.Cells.{body as body_of};
-ghost use Rattle.cells.specs.Chain.{Sound, Taken, free_cells};
+ghost use Rattle.cells.specs.Chain.{Sound, Taken, free_cells, free_from};
 ghost use Rattle.cells.specs.declared.cell.Cell.{Cell as CellOf};
 
 use super::cell::{Body, Cell, FreeList};
@@ -24,7 +24,21 @@ impl<'a, I, T> Model for Arena<'a, I, T> {
     ghost invariant = { λ a. Sound a.cells.now a.free };
 }
 
-impl<I: Copy, T: Copy> Arena<'_, I, T> {
+impl<'a, I: Copy, T: Copy> Arena<'a, I, T> {
+    /// The lent cells as an arena, in which all of them are free.
+    pub fn new(cells: &'a mut [Cell<I, T>]) -> Arena<'a, I, T>
+        requires { length cells.old < 2 ^ 32 }
+        ensures free { free_cells result ≡ length result }
+        ensures same { length result ≡ length cells.old }
+    {
+        free_all(cells);
+        let count = cells.len() as u32;
+        Arena {
+            cells,
+            free: FreeList { first: 0, count },
+        }
+    }
+
     /// What a cell holds; past the last, nothing.
     pub fn body(&self, at: u32) -> Body<I, T>
         ensures { result ≡ body_of self.now at }
@@ -45,6 +59,20 @@ impl<I: Copy, T: Copy> Arena<'_, I, T> {
     }
 }
 
+/// Frees all cells, each linked to the next.
+fn free_all<I: Copy, T: Copy>(cells: &mut [Cell<I, T>])
+    requires { length cells.old < 2 ^ 32 }
+    ensures { cells.new ≡ free_from 0 (length cells.old) }
+{
+    for (i, cell) in cells.iter_mut().enumerate() {
+        *cell = Cell {
+            link: i as u32 + 1,
+            body: Body::Free,
+        };
+    }
+}
+
+/// Has the first free cell hold something.
 fn take_cell<I: Copy, T: Copy>(
     cells: &mut [Cell<I, T>],
     free: &mut FreeList,

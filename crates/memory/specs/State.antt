@@ -1,25 +1,22 @@
 -- What a memory holds, and how it reads. Assumes nothing.
-use Rattle.std.specs.Prelude.{◌≡◌, ℕ, ◌+◌, ◌≤◌, Bool, List, [], map, length, get_or, is_some, Some, None, Option, slice_index_or}
+use Rattle.std.specs.Prelude.{◌≡◌, ℕ, ◌+◌, ◌≤◌, Bool, List, [], map, length, Some, None, Option, slice_index_or}
 use Rattle.std.specs.Option.{option_map, unwrap_or}
 use Rattle.std.specs.List.{AllByRecursion}
 use Rattle.kinds.specs.Algebra.{Algebra}
 use Rattle.cells.specs.declared.cell.Cell.{Cell}
-use Rattle.cells.specs.declared.cell.FreeList.{FreeList}
 use Rattle.cells.specs.declared.cell.Root.{Root}
-use Rattle.cells.specs.Chain.{Sound}
+use Rattle.cells.specs.Chain.{free_cells}
 use Rattle.lists.specs.Lists.{tree_at, list_at, Whole, Right}
-use Rattle.sweep.specs.Kept.{vacant}
 use Rattle.sweep.specs.declared.version.Version.{Version}
 use Rattle.memory.specs.declared.memory.Memory.{Memory}
 
--- The cells, the table of version records and the list of the free cells, as values.
+-- The cells and the table of version records, as values.
 pub record State (I T : Type 0) : Type 0 where
   pub cells : List (Cell I T)
   pub table : List Version
-  pub free : FreeList
 
 abbrev pub state : {K I T Q : Type 0} → Memory K I T Q → State I T
-state m = record { cells = m.cells.now; table = m.table.now; free = m.free }
+state m = record { cells = m.arena; table = m.table }
 
 -- At each place no version, or a list of items.
 abbrev pub Book : Type 0 → Type 0
@@ -33,17 +30,6 @@ module _ {I : Type 0} where
   -- The items there; none where there is no version.
   abbrev pub items : Book I → ℕ → List I
   items b p = unwrap_or (at b p) []
-
--- The root of the empty list.
-abbrev pub empty : Root
-empty = record { levels = 0; at = 0 }
-
--- The root at a place, that of the empty list where there is no version.
-abbrev pub root_at : List Version → ℕ → Root
-root_at table p = unwrap_or (get_or table p vacant).root empty
-
-abbrev pub kept_at : List Version → ℕ → Bool
-kept_at table p = is_some (get_or table p vacant).root
 
 module _ {I T : Type 0} where
   -- The book that a memory reads as.
@@ -62,7 +48,6 @@ module _ {I T : Type 0} where
   pub record Intact (s : State I T) : Type 0 where
     pub cells_few : length s.cells ≤ 262144
     pub places_few : length s.table ≤ 64
-    pub listed : Sound s.cells s.free
     pub held : AllByRecursion (λ v. Held s.cells v.root) s.table
 
   -- The stored totals of a version are those of its items, which the kind admits.
@@ -81,6 +66,6 @@ module _ {I T : Type 0} where
     pub table : s'.table ≡ s.table
     pub reads_same : reads s' ≡ reads s
     pub stays : (old : Root) → Whole s.cells old → tree_at s'.cells old ≡ tree_at s.cells old
-    pub spent : s.free.count ≤ s'.free.count + cost
+    pub spent : free_cells s.cells ≤ free_cells s'.cells + cost
     pub whole : Whole s'.cells r
     pub list : list_at s'.cells r ≡ xs

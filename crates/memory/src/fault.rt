@@ -51,13 +51,13 @@ impl StoreFault {
         match self {
             StoreFault::CellsOutside => 1,
             StoreFault::TableOutside => 2,
-            StoreFault::PlaceOutside(argument) => argument,
-            StoreFault::NoVersion(argument) => argument,
-            StoreFault::Occupied(argument) => argument,
-            StoreFault::NotAdmitted(argument) => argument,
-            StoreFault::NoItem(argument) => argument,
+            StoreFault::PlaceOutside(place)
+            | StoreFault::NoVersion(place)
+            | StoreFault::Occupied(place)
+            | StoreFault::NotAdmitted(place)
+            | StoreFault::NoItem(place)
+            | StoreFault::FewCells(place) => place,
             StoreFault::TooMany => 0,
-            StoreFault::FewCells(place) => place,
         }
     }
 }

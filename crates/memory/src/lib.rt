@@ -1,7 +1,6 @@
 // The memory that a store is lent, and what is done in it before a version has a place.
 #![tactic(auto)]
 
-pub mod check;
 pub mod fault;
 pub mod memory;
 pub mod rows;

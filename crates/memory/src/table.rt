@@ -1,56 +1,67 @@
 // The table of version records, each read, filled and emptied in place.
-ghost use Rattle.std.specs.Prelude.{◌≡◌, ◌<◌, length, replicate, Some, slice_set};
+ghost use Rattle.std.specs.Prelude.{◌≡◌, ◌<◌, List, length, replicate, slice_set};
 ghost use Rattle.sweep.specs.Kept.{vacant};
-ghost use Rattle.memory.specs.State.{root_at, kept_at};
-ghost use Rattle.memory.specs.Rows.{filled};
+ghost use Rattle.sweep.specs.declared.version.Version.{Version as VersionOf};
+ghost use Rattle.memory.specs.Rows.{recorded};
+ghost use Rattle.memory.specs.Versions.{root_at, kept_at};
 
-use cells::cell::Root;
+use cells::cell::{EMPTY, Root};
+use std::marker::Model;
 use sweep::version::Version;
 
-/// The root at a place, that of the empty list where there is no version.
-pub fn root(table: &[Version], place: u32) -> Root
-    ensures { result ≡ root_at table.now place }
-{
-    let none = Root { levels: 0, at: 0 };
-    if place as usize >= table.len() {
-        return none;
+/// The lent table. A contract sees its records.
+#[derive(Drop)]
+pub struct Table<'a> {
+    versions: &'a mut [Version],
+}
+
+impl<'a> Model for Table<'a> {
+    ghost Value = { List VersionOf };
+
+    ghost view = { λ t. t.versions.now };
+}
+
+impl<'a> Table<'a> {
+    /// The lent records as a table, with no version at any place.
+    pub fn new(versions: &'a mut [Version]) -> Table<'a>
+        ensures { result ≡ replicate (length versions.old) vacant }
+    {
+        versions.fill(Version { root: None });
+        Table { versions }
     }
-    let version = table[place as usize];
-    version.root.unwrap_or(none)
-}
 
-/// Whether there is a version at a place.
-pub fn is_kept(table: &[Version], place: u32) -> bool
-    ensures { result ≡ kept_at table.now place }
-{
-    if place as usize >= table.len() {
-        return false;
+    /// The root at a place, that of the empty list where there is no version.
+    pub fn root(&self, place: u32) -> Root
+        ensures { result ≡ root_at self.now place }
+    {
+        match self.versions.get(place as usize) {
+            Some(version) => version.root.unwrap_or(EMPTY),
+            None => EMPTY,
+        }
     }
-    let version = table[place as usize];
-    version.root.is_some()
-}
 
-/// Puts a version at a place.
-pub fn fill(table: &mut [Version], place: u32, root: Root)
-    requires { place < length table.old }
-    ensures { table.new ≡ slice_set table.old place (filled root) }
-{
-    table[place as usize].root = Some(root);
-}
+    /// Whether there is a version at a place.
+    pub fn is_kept(&self, place: u32) -> bool
+        ensures { result ≡ kept_at self.now place }
+    {
+        match self.versions.get(place as usize) {
+            Some(version) => version.root.is_some(),
+            None => false,
+        }
+    }
 
-/// Takes the version from a place.
-pub fn clear(table: &mut [Version], place: u32)
-    requires { place < length table.old }
-    ensures { table.new ≡ slice_set table.old place vacant }
-{
-    table[place as usize].root = None;
-}
+    /// Puts a version at a place, or takes it from there.
+    pub fn set(&mut self, place: u32, root: Option<Root>)
+        requires { place < length self.old }
+        ensures { self.new ≡ slice_set self.old place (recorded root) }
+    {
+        self.versions[place as usize].root = root;
+    }
 
-/// Takes the versions from all places.
-pub fn clear_all(table: &mut [Version])
-    ensures { table.new ≡ replicate (length table.old) vacant }
-{
-    for version in table.iter_mut() {
-        version.root = None;
+    /// Takes the versions from all places.
+    pub fn clear(&mut self)
+        ensures { self.new ≡ replicate (length self.old) vacant }
+    {
+        self.versions.fill(Version { root: None });
     }
 }

@@ -1,11 +1,8 @@
-use Rattle.std.proofs.Common.{refl, arith}
+use Rattle.std.proofs.Common.{arith}
 use Rattle.cells.specs.Cells.{end}
 use Rattle.lists.proofs.Roots.{formed_at, count_at}
-use Rattle.lists.proofs.Pushes.{pop_shallow, none_left, never_none, finger_ready, took, took_right}
+use Rattle.lists.proofs.Pushes.{pop_shallow, finger_ready, took, took_right}
 use Rattle.lists.proofs.sides.pop.Goals as goal
-
-pub returns-then-root-eq0 : goal.returns-then-root-eq0
-returns-then-root-eq0 g c = record { given = (none_left g.K.Kind.kind (end c.args.side) c.args.arena.now c.args.root c.requires.whole c.if-root-eq0.true, refl); right = λ _. tt }
 
 pub pop-requires : goal.pop-requires
 pop-requires g c =
@@ -15,9 +12,6 @@ pop-requires g c =
       formed = formed_at c.args.arena.now c.args.root c.requires.whole;
       fits = omega (arith, count_at c.args.arena.now c.args.root c.requires.whole, c.requires.fits);
     }
-
-pub unreachable-requires : goal.unreachable-requires
-unreachable-requires g c = never_none g.K.Kind.kind (end c.args.side) c.args.arena.now c.args.root c.requires.whole c.if-root-eq0.false c.in_default.ensures
 
 pub item-requires : goal.item-requires
 item-requires g c = finger_ready g.K.Kind.kind (end c.args.side) c.args.arena.now c.args.root c.requires.whole c.in-Some.popped c.in-Some.ensures

@@ -1,12 +1,7 @@
-use Rattle.std.proofs.Common.{length, refl, arith}
+use Rattle.std.proofs.Common.{arith}
 use Rattle.cells.specs.Cells.{end}
-use Rattle.lists.specs.Lists.{list_at}
-use Rattle.lists.proofs.Roots.{some_most}
 use Rattle.lists.proofs.Pushes.{push_room, push_shallow, root_ready, item_ready, push_fits, pushed_made, pushed_right}
 use Rattle.lists.proofs.sides.push.Goals as goal
-
-pub take-finger-requires : goal.take-finger-requires
-take-finger-requires g c = record { used = refl; some = omega (arith, some_most (length (list_at c.args.arena.now c.args.root)), c.requires.room) }
 
 pub push-requires : goal.push-requires
 push-requires g c =
