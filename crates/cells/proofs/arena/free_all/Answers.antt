@@ -1,5 +1,4 @@
 use Rattle.std.proofs.Common.{◌≡◌, suc, ◌+◌, ap, arith}
-use Rattle.cells.specs.declared.cell.Cell.{Cell}
 use Rattle.cells.specs.declared.cell.Body.TheVariants.{Free}
 use Rattle.cells.proofs.Opening.{freed_more}
 use Rattle.cells.proofs.arena.free_all.Goals as goal

@@ -1,5 +1,4 @@
-use Rattle.std.proofs.Common.{length, sym, ap, ◌∙◌}
-use Rattle.cells.specs.Chain.{free_from}
+use Rattle.std.proofs.Common.{length}
 use Rattle.cells.proofs.Opening.{all_free, opened, long_free}
 use Rattle.cells.proofs.arena.Arena.new.Goals as goal
 
