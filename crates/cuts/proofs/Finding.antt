@@ -1,6 +1,6 @@
 -- Where the item at a position is. Assumes nothing.
-use Rattle.std.proofs.Common.{◌≡◌, ℕ, suc, ◌-◌, ◌<◌, ◌≤◌, List, [], ◌++◌, length, get_or, sym, ap, ◌∙◌, subst, append-nil, arith}
-use Rattle.std.proofs.lemmas.List.{get_or_append_left, get_or-append_right}
+use Rattle.std.proofs.Common.{◌≡◌, ℕ, suc, ◌+◌, ◌<◌, List, [], ◌++◌, length, get_or, sym, ap, ◌∙◌, subst, append-nil, arith}
+use Rattle.std.proofs.lemmas.List.{get_or_append_left, get_or-append-add}
 use Rattle.model.specs.Tree.{front, back, run, items, count_node, count_run, count}
 use Rattle.model.specs.Ends.{fingers}
 use Rattle.model.specs.Append.{onto}
@@ -28,31 +28,36 @@ module _ {I T : Type 0} (h : List (Cell I T)) (k k' p : ℕ) (s : suc k ≡ k') 
   parts_count = ap count_run e ∙ count_fingers front k (node h (suc k) p) node_down ∙ ap (λ j. count_node (node h j p)) s
 
 -- a level, from the left: the items at its front, in its middle and at its back
-module _ {I T : Type 0} (h : List (Cell I T)) (k : ℕ) (root : Root) {f b : Filled} {m : Root} (seen : SeenDeep h k front root f m b) (i : ℕ) (x : I) where
-  level_items : items (rooted h k root) ≡ run front (nodes h k (listed f)) ++ (items (rooted h (suc k) m) ++ run back (nodes h k (listed b)))
+module _ {I T : Type 0} (h : List (Cell I T)) (k : ℕ) (root : Root) {f b : Filled} {m : Root} (seen : SeenDeep h k front root f m b) (i j : ℕ) (x : I) where
+  abbrev F : List I
+  F = run front (nodes h k (listed f))
+
+  abbrev M : List I
+  M = items (rooted h (suc k) m)
+
+  abbrev B : List I
+  B = run back (nodes h k (listed b))
+
+  level_items : items (rooted h k root) ≡ F ++ (M ++ B)
   level_items = ap items seen.is
 
-  front_long : count_run (nodes h k (listed f)) ≡ length (run front (nodes h k (listed f)))
+  front_long : count_run (nodes h k (listed f)) ≡ length F
   front_long = count_run_is front k (nodes h k (listed f)) seen.near_formed
 
-  middle_long : count (rooted h (suc k) m) ≡ length (items (rooted h (suc k) m))
+  middle_long : count (rooted h (suc k) m) ≡ length M
   middle_long = count_is (suc k) (rooted h (suc k) m) seen.middle_formed
 
-  pub at_front : i < count_run (nodes h k (listed f)) → x ≡ get_or (run front (nodes h k (listed f))) i x → x ≡ get_or (items (rooted h k root)) i x
-  at_front l e = e ∙ sym (ap (λ xs. get_or xs i x) level_items ∙ get_or_append_left (run front (nodes h k (listed f))) _ x i (omega (arith, front_long)))
+  after_front : (o : ℕ) → i ≡ count_run (nodes h k (listed f)) + o → get_or (items (rooted h k root)) i x ≡ get_or (M ++ B) o x
+  after_front o e = ap (λ xs. get_or xs i x) level_items ∙ ap (λ n. get_or (F ++ (M ++ B)) n x) (e ∙ ap (λ n. n + o) front_long) ∙ get_or-append-add F (M ++ B) o x
 
-  module _ (n : ℕ) (a : n ≡ count_run (nodes h k (listed f))) (past : n ≤ i) where
-    after_front : get_or (items (rooted h k root)) i x ≡ get_or (items (rooted h (suc k) m) ++ run back (nodes h k (listed b))) (i - n) x
-    after_front = ap (λ xs. get_or xs i x) level_items ∙ get_or-append_right (run front (nodes h k (listed f))) _ n i x (sym front_long ∙ sym a) past
+  pub at_front : (i ≡ j) × (j < count_run (nodes h k (listed f))) → x ≡ get_or F j x → x ≡ get_or (items (rooted h k root)) i x
+  at_front e y = y ∙ sym (ap (λ xs. get_or xs i x) level_items ∙ ap (λ n. get_or (F ++ (M ++ B)) n x) e.0 ∙ get_or_append_left F (M ++ B) x j (omega (arith, front_long, e.1)))
 
-    module _ (k' : ℕ) (s : suc k ≡ k') where
-      pub at_middle : i - n < count (rooted h k' m) → x ≡ get_or (items (rooted h k' m)) (i - n) x → x ≡ get_or (items (rooted h k root)) i x
-      at_middle l e =
-          let c = ap (λ j. count (rooted h j m)) s in
-          e ∙ ap (λ j. get_or (items (rooted h j m)) (i - n) x) (sym s) ∙ sym (after_front ∙ get_or_append_left (items (rooted h (suc k) m)) (run back (nodes h k (listed b))) x (i - n) (omega (arith, middle_long, c)))
+  pub at_middle : (up : ℕ) → suc k ≡ up → (i ≡ count_run (nodes h k (listed f)) + j) × (j < count (rooted h (suc k) m)) → x ≡ get_or (items (rooted h up m)) j x → x ≡ get_or (items (rooted h k root)) i x
+  at_middle up s e y =
+      y ∙ ap (λ k. get_or (items (rooted h k m)) j x) (sym s) ∙ sym (after_front j e.0 ∙ get_or_append_left M B x j (omega (arith, middle_long, e.1)))
 
-      pub at_back : (o : ℕ) → o ≡ count (rooted h k' m) → o ≤ i - n → (ps : List ℕ) → ps ≡ onto (listed b) [] → x ≡ get_or (run front (nodes h k ps)) (i - n - o) x → x ≡ get_or (items (rooted h k root)) i x
-      at_back o c l ps e y =
-          let long : length (items (rooted h (suc k) m)) ≡ o = sym middle_long ∙ ap (λ j. count (rooted h j m)) s ∙ sym c in
-          let turned : run front (nodes h k ps) ≡ run back (nodes h k (listed b)) = ap (run front) (turned_nodes h k (listed b) ps e) ∙ run_onto (nodes h k (listed b)) [] ∙ append-nil _ in
-          y ∙ ap (λ xs. get_or xs (i - n - o) x) turned ∙ sym (after_front ∙ get_or-append_right (items (rooted h (suc k) m)) (run back (nodes h k (listed b))) o (i - n) x long l)
+  pub at_back : i ≡ count_run (nodes h k (listed f)) + (count (rooted h (suc k) m) + j) → (ps : List ℕ) → ps ≡ onto (listed b) [] → x ≡ get_or (run front (nodes h k ps)) j x → x ≡ get_or (items (rooted h k root)) i x
+  at_back e ps o y =
+      let turned : run front (nodes h k ps) ≡ B = ap (run front) (turned_nodes h k (listed b) ps o) ∙ run_onto (nodes h k (listed b)) [] ∙ append-nil _ in
+      y ∙ ap (λ xs. get_or xs j x) turned ∙ sym (after_front (count (rooted h (suc k) m) + j) e ∙ ap (λ n. get_or (M ++ B) (n + j) x) middle_long ∙ get_or-append-add M B j x)

@@ -6,10 +6,10 @@ ghost use Rattle.cells.specs.Cells.{node, nodes, rooted};
 ghost use Rattle.cells.specs.Fingers.{listed};
 
 use super::cut::cut_digit;
+use super::part::{Part, part_at};
 use cells::arena::Arena;
 use cells::cell::Root;
 use cells::fingers::Digit;
-use cells::read::{weigh_run, weigh_tree};
 use cells::side::Side;
 use cells::view::View;
 use kinds::Kind;
@@ -66,16 +66,11 @@ pub fn item_at<K: Kind>(
         View::Empty => unreachable(),
         View::Single { finger } => node_item::<K>(arena, level, finger, position),
         View::Deep { near, middle, far } => {
-            let first = weigh_run::<K>(arena, level, Side::Front, near);
-            if position < first.items {
-                return item_in::<K>(arena, level, near, position);
+            match part_at::<K>(arena, level, near, middle, position) {
+                Part::Front(place) => item_in::<K>(arena, level, near, place),
+                Part::Middle(place) => item_at::<K>(arena, level + 1, middle, place),
+                Part::Back(place) => item_in::<K>(arena, level, far.reversed(), place),
             }
-            let after = position - first.items;
-            let inner = weigh_tree::<K>(arena, level + 1, middle);
-            if after < inner.items {
-                return item_at::<K>(arena, level + 1, middle, after);
-            }
-            item_in::<K>(arena, level, far.reversed(), after - inner.items)
         }
     }
 }

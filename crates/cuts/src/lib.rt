@@ -1,5 +1,6 @@
-// Fingers cut at a position, and the item at a position.
+// Fingers cut at a position, the part of a level that has it, and the item there.
 #![tactic(auto)]
 
 pub mod cut;
 pub mod item;
+pub mod part;

@@ -71,27 +71,35 @@ module _ {I T Q : Type 0} (q : Algebra I T Q) (x : I) (h : List (Cell I T)) (k :
       items_long t = length (items t)
 
   module _ {near far : Filled} {m : Root} (seen : SeenDeep h k front root near m far) where
+    abbrev F : List (Node I T)
+    F = nodes h k (listed near)
+
+    abbrev M : Tree I T
+    M = rooted h (suc k) m
+
+    abbrev B : List (Node I T)
+    B = nodes h k (listed far)
+
     -- what the tests y and z make of the level
     abbrev changed : Bool → Bool → Tree I T
-    changed y z = choose y (make q (swap (replaced_node q x k) i (nodes h k (listed near))) (rooted h (suc k) m) (nodes h k (listed far)))
-        (choose z (make q (nodes h k (listed near)) (replaced q x (suc k) (i - count_run (nodes h k (listed near))) (rooted h (suc k) m)) (nodes h k (listed far)))
-        (make q (nodes h k (listed near)) (rooted h (suc k) m) (onto (swap (replaced_node q x k) (i - count_run (nodes h k (listed near)) - count (rooted h (suc k) m)) (onto (nodes h k (listed far)) [])) [])))
+    changed y z = choose y (make q (swap (replaced_node q x k) i F) M B) (choose z (make q F (replaced q x (suc k) (i - count_run F) M) B) (make q F M (onto (swap (replaced_node q x k) (i - count_run F - count M) (onto B [])) [])))
 
-    changed_is : (y z : Bool) → y ≡ ltb i (count_run (nodes h k (listed near))) → z ≡ ltb (i - count_run (nodes h k (listed near))) (count (rooted h (suc k) m)) → changed y z ≡ replaced q x k i (rooted h k root)
-    changed_is y z ey ez = ap (λ y. changed y z) ey ∙ ap (changed (ltb i (count_run (nodes h k (listed near))))) ez ∙ sym (ap (replaced q x k i) seen.is)
+    changed_is : (y z : Bool) → y ≡ ltb i (count_run F) → z ≡ ltb (i - count_run F) (count M) → changed y z ≡ replaced q x k i (rooted h k root)
+    changed_is y z ey ez = ap (λ y. changed y z) ey ∙ ap (changed (ltb i (count_run F))) ez ∙ sym (ap (replaced q x k i) seen.is)
 
-    pub rebuilt_front : {h₁ : List (Cell I T)} {c : ℕ} {ps : List ℕ} → i < count_run (nodes h k (listed near)) → MadeRun h h₁ c k ps (swap (replaced_node q x k) i (nodes h k (listed near))) → Rebuilt q x h k root i h₁ c ps m (listed far)
-    rebuilt_front {ps = ps} n u = rebuilt ps m (listed far) (swap (replaced_node q x k) i (nodes h k (listed near))) (rooted h (suc k) m) (nodes h k (listed far)) u.grown (changed_is true _ (lt-true i (count_run (nodes h k (listed near))) n) refl) u.reads (keep_tree u.grown.extends m.levels (suc k) m.at seen.middle_formed) (keep_nodes u.grown.extends k (listed far) seen.far_formed)
+    module _ {h₁ : List (Cell I T)} {c : ℕ} (j : ℕ) where
+      pub rebuilt_front : (i ≡ j) × (j < count_run F) → {ps : List ℕ} → MadeRun h h₁ c k ps (swap (replaced_node q x k) j F) → Rebuilt q x h k root i h₁ c ps m (listed far)
+      rebuilt_front e {ps} u =
+          rebuilt ps m (listed far) (swap (replaced_node q x k) i F) M B u.grown (changed_is true _ (lt-true i (count_run F) (omega (arith, e.0, e.1))) refl) (u.reads ∙ ap (λ n. swap (replaced_node q x k) n F) (sym e.0)) (keep_tree u.grown.extends m.levels (suc k) m.at seen.middle_formed) (keep_nodes u.grown.extends k (listed far) seen.far_formed)
 
-    module _ (n : ℕ) (e : n ≡ count_run (nodes h k (listed near))) (past : n ≤ i) (k' : ℕ) (s : suc k ≡ k') where
-      pub rebuilt_middle : {h₁ : List (Cell I T)} {c : ℕ} (o : Root) → i - n < count (rooted h k' m) → MadeTree h h₁ c k' o (replaced q x k' (i - n) (rooted h k' m)) → Rebuilt q x h k root i h₁ c (listed near) o (listed far)
-      rebuilt_middle {h₁} o l u =
-          let r = subst (λ j. rooted h₁ j o ≡ replaced q x j (i - n) (rooted h j m)) (sym s) u.reads ∙ ap (λ n. replaced q x (suc k) (i - n) (rooted h (suc k) m)) e in
-          let y = subst (λ j. i - n < count (rooted h j m)) (sym s) l in
-          rebuilt (listed near) o (listed far) (nodes h k (listed near)) (replaced q x (suc k) (i - count_run (nodes h k (listed near))) (rooted h (suc k) m)) (nodes h k (listed far)) u.grown (changed_is false true (le-false i (count_run (nodes h k (listed near))) (omega arith)) (lt-true (i - count_run (nodes h k (listed near))) (count (rooted h (suc k) m)) (subst (λ n. i - n < count (rooted h (suc k) m)) e y))) (keep_nodes u.grown.extends k (listed near) seen.near_formed) r (keep_nodes u.grown.extends k (listed far) seen.far_formed)
+      pub rebuilt_middle : (i ≡ count_run F + j) × (j < count M) → (up : ℕ) → suc k ≡ up → {o : Root} → MadeTree h h₁ c up o (replaced q x up j (rooted h up m)) → Rebuilt q x h k root i h₁ c (listed near) o (listed far)
+      rebuilt_middle e up s {o} u =
+          let same : j ≡ i - count_run F = omega (arith, e.0) in
+          let r = subst (λ k. rooted h₁ k o ≡ replaced q x k j (rooted h k m)) (sym s) u.reads ∙ ap (λ n. replaced q x (suc k) n M) same in
+          rebuilt (listed near) o (listed far) F (replaced q x (suc k) (i - count_run F) M) B u.grown (changed_is false true (le-false i (count_run F) (omega (arith, e.0))) (lt-true (i - count_run F) (count M) (omega (arith, same, e.1)))) (keep_nodes u.grown.extends k (listed near) seen.near_formed) r (keep_nodes u.grown.extends k (listed far) seen.far_formed)
 
-      pub rebuilt_back : {h₁ : List (Cell I T)} {c : ℕ} {ps : List ℕ} (o : ℕ) → o ≡ count (rooted h k' m) → o ≤ i - n → (ts qs : List ℕ) → ts ≡ onto (listed far) [] → qs ≡ onto ps [] → MadeRun h h₁ c k ps (swap (replaced_node q x k) (i - n - o) (nodes h k ts)) → Rebuilt q x h k root i h₁ c (listed near) m qs
-      rebuilt_back {h₁} {ps = ps} o y over ts qs turned again u =
-          let b : o ≡ count (rooted h (suc k) m) = y ∙ sym (ap (λ j. count (rooted h j m)) s) in
-          let same : i - n - o ≡ i - count_run (nodes h k (listed near)) - count (rooted h (suc k) m) = rw (e, b) in
-          rebuilt (listed near) m qs (nodes h k (listed near)) (rooted h (suc k) m) _ u.grown (changed_is false false (le-false i (count_run (nodes h k (listed near))) (omega arith)) (le-false (i - count_run (nodes h k (listed near))) (count (rooted h (suc k) m)) (omega arith))) (keep_nodes u.grown.extends k (listed near) seen.near_formed) (keep_tree u.grown.extends m.levels (suc k) m.at seen.middle_formed) (turned_nodes h₁ k ps qs again ∙ ap (λ ns. onto ns []) (u.reads ∙ ap (λ j. swap (replaced_node q x k) j (nodes h k ts)) same ∙ ap (swap (replaced_node q x k) (i - count_run (nodes h k (listed near)) - count (rooted h (suc k) m))) (turned_nodes h k (listed far) ts turned)))
+      pub rebuilt_back : i ≡ count_run F + (count M + j) → {ts ps qs : List ℕ} → ts ≡ onto (listed far) [] → qs ≡ onto ps [] → MadeRun h h₁ c k ps (swap (replaced_node q x k) j (nodes h k ts)) → Rebuilt q x h k root i h₁ c (listed near) m qs
+      rebuilt_back e {ts} {ps} {qs} turned again u =
+          let same : j ≡ i - count_run F - count M = omega (arith, e) in
+          let r = turned_nodes h₁ k ps qs again ∙ ap (λ ns. onto ns []) (u.reads ∙ ap (λ n. swap (replaced_node q x k) n (nodes h k ts)) same ∙ ap (swap (replaced_node q x k) (i - count_run F - count M)) (turned_nodes h k (listed far) ts turned)) in
+          rebuilt (listed near) m qs F M _ u.grown (changed_is false false (le-false i (count_run F) (omega (arith, e))) (le-false (i - count_run F) (count M) (omega (arith, e)))) (keep_nodes u.grown.extends k (listed near) seen.near_formed) (keep_tree u.grown.extends m.levels (suc k) m.at seen.middle_formed) r

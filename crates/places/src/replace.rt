@@ -14,10 +14,10 @@ use cells::build::{make_deep, make_node, make_single};
 use cells::cell::{Body, Root};
 use cells::digits::count_of;
 use cells::fingers::Digit;
-use cells::read::{weigh_run, weigh_tree};
 use cells::side::Side;
 use cells::view::View;
 use cuts::cut::cut_digit;
+use cuts::part::{Part, part_at};
 use kinds::Kind;
 
 // A node with another item at a position.
@@ -86,19 +86,20 @@ pub fn replace<K: Kind>(
             make_single::<K>(arena, level, changed)
         }
         View::Deep { near, middle, far } => {
-            let first = weigh_run::<K>(arena, level, Side::Front, near);
-            if position < first.items {
-                let front = replace_in::<K>(arena, level, near, position, item);
-                return make_deep::<K>(arena, level, Side::Front, front, middle, far);
+            match part_at::<K>(arena, level, near, middle, position) {
+                Part::Front(place) => {
+                    let front = replace_in::<K>(arena, level, near, place, item);
+                    make_deep::<K>(arena, level, Side::Front, front, middle, far)
+                }
+                Part::Middle(place) => {
+                    let below = replace::<K>(arena, level + 1, middle, place, item);
+                    make_deep::<K>(arena, level, Side::Front, near, below, far)
+                }
+                Part::Back(place) => {
+                    let turned = replace_in::<K>(arena, level, far.reversed(), place, item);
+                    make_deep::<K>(arena, level, Side::Front, near, middle, turned.reversed())
+                }
             }
-            let after = position - first.items;
-            let inner = weigh_tree::<K>(arena, level + 1, middle);
-            if after < inner.items {
-                let below = replace::<K>(arena, level + 1, middle, after, item);
-                return make_deep::<K>(arena, level, Side::Front, near, below, far);
-            }
-            let changed = replace_in::<K>(arena, level, far.reversed(), after - inner.items, item);
-            make_deep::<K>(arena, level, Side::Front, near, middle, changed.reversed())
         }
     }
 }

@@ -9,7 +9,7 @@ use Rattle.model.specs.Split.{choose, cut, Parts, parts, in_front, in_back, in_n
 use Rattle.model.specs.Forms.{Each}
 use Rattle.model.proofs.Forms.{count_node_is, count_is}
 use Rattle.model.proofs.Splitting.{PartsWell, WellParted, parts_counts, split_well}
-use Rattle.cells.specs.Cells.{node, nodes, tree, rooted}
+use Rattle.cells.specs.Cells.{node, nodes, rooted}
 use Rattle.cells.specs.Fingers.{listed}
 use Rattle.cells.specs.Made.{SeenDeep}
 use Rattle.cells.specs.declared.cell.Cell.{Cell}
@@ -50,38 +50,37 @@ module _ {I T Q : Type 0} (q : Algebra I T Q) (h : List (Cell I T)) (k i : ℕ) 
   level_is j y z ej ey ez = ap (levelled j y) ez ∙ ap (λ y. levelled j y (ltb j (count middle))) ey ∙ ap (λ j. levelled j (ltb i (count_run (nodes h k (listed near)))) (ltb j (count middle))) ej ∙ sym (ap (split q i) seen.is)
 
   -- it is cut at its front
-  pub front_done : {h' : List (Cell I T)} {o : Split Root} (r : Split (Option Filled)) → cut_at h k r ≡ cut i [] (nodes h k (listed near)) → (c : ℕ) → i < count_run (nodes h k (listed near)) → m.levels + 2 ≤ c → MadeParts h h' (m.levels + 2) k o (in_front q (rooted h (suc k) m) (nodes h k (listed far)) (cut_at h k r)) → MadeParts h h' c k o (split q i (rooted h k root))
+  pub front_done : {h' : List (Cell I T)} {o : Split Root} (j : ℕ) → (i ≡ j) × (j < count_run (nodes h k (listed near))) → (r : Split (Option Filled)) → cut_at h k r ≡ cut j [] (nodes h k (listed near)) → (c : ℕ) → m.levels + 2 ≤ c → MadeParts h h' (m.levels + 2) k o (in_front q (rooted h (suc k) m) (nodes h k (listed far)) (cut_at h k r)) → MadeParts h h' c k o (split q i (rooted h k root))
   unfolding middle levelled
-  front_done r e c y l u = parts_as c _ u (ap (in_front q middle (nodes h k (listed far))) e ∙ level_is (i - count_run (nodes h k (listed near))) true (ltb (i - count_run (nodes h k (listed near))) (count middle)) refl (lt-true i (count_run (nodes h k (listed near))) y) refl) l
+  front_done j y r e c l u =
+      let here = e ∙ ap (λ j. cut j [] (nodes h k (listed near))) (sym y.0) in
+      parts_as c _ u (ap (in_front q middle (nodes h k (listed far))) here ∙ level_is (i - count_run (nodes h k (listed near))) true (ltb (i - count_run (nodes h k (listed near))) (count middle)) refl (lt-true i (count_run (nodes h k (listed near))) (omega (arith, y.0, y.1))) refl) l
 
-  -- it is cut past its front, which has n items
-  module _ (n : ℕ) (en : n ≡ count_run (nodes h k (listed near))) (past : n ≤ i) where
+  -- it is cut past its front, at n from there on
+  module _ (n : ℕ) (past : i ≡ count_run (nodes h k (listed near)) + n) where
     past_front : false ≡ ltb i (count_run (nodes h k (listed near)))
-    past_front = le-false i (count_run (nodes h k (listed near))) (omega arith)
+    past_front = le-false i (count_run (nodes h k (listed near))) (omega (arith, past))
 
-    at : i - n ≡ i - count_run (nodes h k (listed near))
-    at = ap (λ n. i - n) en
+    at : n ≡ i - count_run (nodes h k (listed near))
+    at = omega (arith, past)
 
     -- it is cut at its back
-    pub back_done : {h' : List (Cell I T)} {o : Split Root} (p : ℕ) → p ≡ count (rooted h (suc k) m) → p ≤ i - n → (ps : List ℕ) → ps ≡ onto (listed far) [] → (r : Split (Option Filled)) → cut_at h k r ≡ cut (i - n - p) [] (nodes h k ps) → (c : ℕ) → m.levels + 2 ≤ c → MadeParts h h' (m.levels + 2) k o (in_back q (nodes h k (listed near)) (rooted h (suc k) m) (cut_at h k r)) → MadeParts h h' c k o (split q i (rooted h k root))
+    pub back_done : {h' : List (Cell I T)} {o : Split Root} (j : ℕ) → n ≡ count (rooted h (suc k) m) + j → (ps : List ℕ) → ps ≡ onto (listed far) [] → (r : Split (Option Filled)) → cut_at h k r ≡ cut j [] (nodes h k ps) → (c : ℕ) → m.levels + 2 ≤ c → MadeParts h h' (m.levels + 2) k o (in_back q (nodes h k (listed near)) (rooted h (suc k) m) (cut_at h k r)) → MadeParts h h' c k o (split q i (rooted h k root))
     unfolding middle levelled
-    back_done p ep over ps turned r e c l u =
-        let here = e ∙ ap (λ p. cut (i - n - p) [] (nodes h k ps)) ep ∙ ap (cut (i - n - count middle) []) (ap (nodes h k) turned ∙ nodes_onto h k (listed far) []) in
-        parts_as c _ u (ap (in_back q (nodes h k (listed near)) middle) here ∙ level_is (i - n) false false at past_front (le-false (i - n) (count middle) (omega arith))) l
+    back_done j ej ps turned r e c l u =
+        let to : j ≡ n - count middle = omega (arith, ej) in
+        let here = e ∙ ap (λ j. cut j [] (nodes h k ps)) to ∙ ap (cut (n - count middle) []) (ap (nodes h k) turned ∙ nodes_onto h k (listed far) []) in
+        parts_as c _ u (ap (in_back q (nodes h k (listed near)) middle) here ∙ level_is n false false at past_front (le-false n (count middle) (omega (arith, ej)))) l
 
     -- it is cut in its middle
-    module _ (k' : ℕ) (s : suc k ≡ k') (l : i - n < count (tree h m.levels k' m.at)) {h₁ : List (Cell I T)} {c : ℕ} (o : Split Root) (made : MadeParts h h₁ c k' o (split q (i - n) (tree h m.levels k' m.at))) where
-      within : i - n < count middle
+    module _ (within : n < count (rooted h (suc k) m)) (k' : ℕ) (s : suc k ≡ k') {h₁ : List (Cell I T)} {c : ℕ} (o : Split Root) (made : MadeParts h h₁ c k' o (split q n (rooted h k' m))) where
+      inner_is : parts_at h₁ (suc k) o ≡ split q n middle
       unfolding middle
-      within = subst (λ j. i - n < count (rooted h j m)) (sym s) l
+      inner_is = subst (λ j. parts_at h₁ j o ≡ split q n (rooted h j m)) (sym s) made.reads
 
-      inner_is : parts_at h₁ (suc k) o ≡ split q (i - n) middle
+      pub inner : PartsWell (suc k) n (levels (rooted h (suc k) m)) (items (rooted h (suc k) m)) (rooted h₁ (suc k) o.before) (node h₁ (suc k) o.finger) (rooted h₁ (suc k) o.after) o.offset
       unfolding middle
-      inner_is = subst (λ j. parts_at h₁ j o ≡ split q (i - n) (rooted h j m)) (sym s) made.reads
-
-      pub inner : PartsWell (suc k) (i - n) (levels (rooted h (suc k) m)) (items (rooted h (suc k) m)) (rooted h₁ (suc k) o.before) (node h₁ (suc k) o.finger) (rooted h₁ (suc k) o.after) o.offset
-      unfolding middle
-      inner = subst (WellParted (suc k) (i - n) (levels middle) (items middle)) (sym inner_is) (split_well q (suc k) (i - n) middle seen.middle_formed (let c = count_is (suc k) middle seen.middle_formed in let l = within in omega arith))
+      inner = subst (WellParted (suc k) n (levels middle) (items middle)) (sym inner_is) (split_well q (suc k) n middle seen.middle_formed (let c = count_is (suc k) middle seen.middle_formed in omega (arith, c, within)))
 
       pub inner_within : o.offset < count_node (node h₁ (suc k) o.finger)
       inner_within = omega (arith, inner.within, count_node_is (suc k) (node h₁ (suc k) o.finger) inner.here)
@@ -111,4 +110,4 @@ module _ {I T Q : Type 0} (q : Algebra I T Q) (h : List (Cell I T)) (k i : ℕ) 
       unfolding middle levelled
       middle_done d e x =
           let kept = ap (λ x. in_middle q x (nodes h₁ k (listed far)) (parts_at h₁ (suc k) o)) near_kept ∙ ap (λ x. in_middle q (nodes h k (listed near)) x (parts_at h₁ (suc k) o)) far_kept ∙ ap (in_middle q (nodes h k (listed near)) (nodes h k (listed far))) inner_is in
-          record { grown = grown_more d made.grown x.grown e; reads = x.reads ∙ kept ∙ level_is (i - n) false true at past_front (lt-true (i - n) (count middle) within) }
+          record { grown = grown_more d made.grown x.grown e; reads = x.reads ∙ kept ∙ level_is n false true at past_front (lt-true n (count middle) within) }

@@ -14,10 +14,10 @@ use super::some::tree_some;
 use cells::arena::Arena;
 use cells::cell::{EMPTY, Root};
 use cells::fingers::Digit;
-use cells::read::{weigh_run, weigh_tree};
 use cells::side::Side;
 use cells::view::View;
 use cuts::cut::{Split, cut_digit};
+use cuts::part::{Part, part_at};
 use ends::pop::trim;
 use kinds::Kind;
 
@@ -106,19 +106,20 @@ pub fn split<K: Kind>(
             after: EMPTY,
         },
         View::Deep { near, middle, far } => {
-            let first = weigh_run::<K>(arena, level, Side::Front, near);
-            if position < first.items {
-                let cut = cut_digit::<K>(arena, level, position, None, near);
-                return halve_at::<K>(arena, level, Side::Front, cut, middle, far);
+            match part_at::<K>(arena, level, near, middle, position) {
+                Part::Front(place) => {
+                    let cut = cut_digit::<K>(arena, level, place, None, near);
+                    halve_at::<K>(arena, level, Side::Front, cut, middle, far)
+                }
+                Part::Middle(place) => {
+                    let halves = split::<K>(arena, level + 1, middle, place);
+                    halve_below::<K>(arena, level, near, halves, far)
+                }
+                Part::Back(place) => {
+                    let cut = cut_digit::<K>(arena, level, place, None, far.reversed());
+                    halve_at::<K>(arena, level, Side::Back, cut, middle, near)
+                }
             }
-            let after = position - first.items;
-            let inner = weigh_tree::<K>(arena, level + 1, middle);
-            if after < inner.items {
-                let halves = split::<K>(arena, level + 1, middle, after);
-                return halve_below::<K>(arena, level, near, halves, far);
-            }
-            let cut = cut_digit::<K>(arena, level, after - inner.items, None, far.reversed());
-            halve_at::<K>(arena, level, Side::Back, cut, middle, near)
         }
     }
 }
