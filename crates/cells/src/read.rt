@@ -48,7 +48,7 @@ pub fn toward<K: Kind>(
 }
 
 // What nothing comes to.
-fn weigh_nothing<K: Kind>() -> Weight<K::Total>
+pub fn weigh_nothing<K: Kind>() -> Weight<K::Total>
     ensures { Weighed K.Kind.kind.nothing 0 result }
 {
     Weight {

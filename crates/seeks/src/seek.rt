@@ -9,8 +9,8 @@ ghost use Rattle.seeks.specs.Sought.{sought, Inside, AlikeSought};
 
 use super::spot::locate;
 use cells::arena::Arena;
-use cells::cell::{Root, Weight};
-use cells::read::weigh_tree;
+use cells::cell::Root;
+use cells::read::{weigh_nothing, weigh_tree};
 use kinds::Kind;
 
 // The least position j such that the first j + 1 items meet a question, and what the first j come to.
@@ -39,11 +39,7 @@ pub fn seek<K: Kind>(
     if !K::meets(whole.total, question) {
         return None;
     }
-    let nothing = Weight {
-        total: K::nothing(),
-        items: 0,
-    };
-    let spot = locate::<K>(arena, 0, question, nothing, root);
+    let spot = locate::<K>(arena, 0, question, weigh_nothing::<K>(), root);
     Some(Found {
         position: spot.passed.items,
         before: spot.passed.total,

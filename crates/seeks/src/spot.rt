@@ -35,14 +35,17 @@ pub fn spot_digit<K: Kind>(
     ensures { SpottedRun K.Kind.kind arena.now level question passed (nodes arena.now level (listed digit)) result }
 {
     let (finger, rest) = digit.split_first();
-    if let Some(others) = rest {
-        let weight = weigh::<K>(arena, level, finger);
-        let next = toward::<K>(Side::Front, passed, weight);
-        if !K::meets(next.total, question) {
-            return spot_digit::<K>(arena, level, question, next, others);
-        }
+    let here = Spot { finger, passed };
+    let Some(others) = rest else {
+        return here;
+    };
+    let weight = weigh::<K>(arena, level, finger);
+    let next = toward::<K>(Side::Front, passed, weight);
+    if K::meets(next.total, question) {
+        here
+    } else {
+        spot_digit::<K>(arena, level, question, next, others)
     }
-    Spot { finger, passed }
 }
 
 // The finger of a level in which the question is first met, or the last; the tree is not empty.

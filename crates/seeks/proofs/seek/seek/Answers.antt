@@ -14,7 +14,7 @@ returns-then-not-meets-clause-right g c = seek_misses g.K.Kind.kind c.args.quest
 
 pub returns-clause-right : goal.returns-clause-right
 returns-clause-right g c =
-    seek_hits g.K.Kind.kind c.args.question (rooted c.args.arena.now 0 c.args.root) g.met.K.Kind.lawful _ c.weigh_tree-whole.ensures.total_is c.if-not-meets.ensures c.args.arena.now _ c.nothing.ensures c.locate-spot.result c.locate-spot.ensures
+    seek_hits g.K.Kind.kind c.args.question (rooted c.args.arena.now 0 c.args.root) g.met.K.Kind.lawful _ c.weigh_tree-whole.ensures.total_is c.if-not-meets.ensures c.args.arena.now _ c.weigh_nothing.ensures c.locate-spot.result c.locate-spot.ensures
 
 pub returns-clause-within : goal.returns-clause-within
-returns-clause-within g c = seek_within g.K.Kind.kind c.args.question (rooted c.args.arena.now 0 c.args.root) c.requires.formed c.args.arena.now _ c.locate-spot.result c.locate-spot.ensures
+returns-clause-within g c = seek_within g.K.Kind.kind c.args.question (rooted c.args.arena.now 0 c.args.root) c.requires.formed c.args.arena.now _ c.weigh_nothing.ensures c.locate-spot.result c.locate-spot.ensures

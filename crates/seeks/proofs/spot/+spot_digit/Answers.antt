@@ -6,7 +6,6 @@ use Rattle.cells.proofs.Fours.{listed_length}
 use Rattle.cells.specs.Fingers.{listed, listed_some}
 use Rattle.seeks.proofs.Spotting.{spot_last, spot_here, spot_later}
 use Rattle.seeks.proofs.spot.+spot_digit.Goals as goal
-use Rattle.seeks.proofs.spot.+spot_digit.Goals.{in-Some+else-not-meets, in_default}
 
 pub spot_digit-requires : goal.spot_digit-requires
 spot_digit-requires g t c κs within =
@@ -21,18 +20,19 @@ spot_digit-requires g t c κs within =
     let less : others.count < d.count = omega (arith, ap length e, listed_length d, listed_length others) in
     (search rules, (within.0, (within.1.0, (within.1.1.0, (within.1.1.1, (v.1, omega (arith, n, c.toward-next.ensures.items_are, c.weigh-weight.ensures.items_are, c.requires.fits)))))))
 
-pub returns-then-not-meets : goal.returns-then-not-meets
-returns-then-not-meets g t c =
+pub returns-else-meets : goal.returns-else-meets
+returns-else-meets g t c =
     let x = c.split_first-finger.result.0 in
     let e : listed c.args.digit ≡ x ∷ listed c.in-Some.others = c.split_first-finger.ensures ∙ ap (λ o. x ∷ listed_some o) c.in-Some.is in
-    spot_later {k = g.K.Kind.kind} g.met.K.Kind.lawful c.args.arena.now c.args.level c.args.question c.args.passed x (listed c.args.digit) c.requires.formed _ e _ _ c.weigh-weight.ensures c.toward-next.ensures c.if-not-meets.ensures _ c.spot_digit.ensures
+    spot_later {k = g.K.Kind.kind} g.met.K.Kind.lawful c.args.arena.now c.args.level c.args.question c.args.passed x (listed c.args.digit) c.requires.formed _ e _ _ c.weigh-weight.ensures c.toward-next.ensures c.if-meets.ensures _ c.spot_digit.ensures
 
-pub returns : goal.returns
-returns g t c =
+pub returns-then-meets : goal.returns-then-meets
+returns-then-meets g t c =
     let x = c.split_first-finger.result.0 in
-    elim c.match-rest.branch [
-      | in-Some+else-not-meets w ↦
-          let e : listed c.args.digit ≡ x ∷ listed w.in-Some.others = c.split_first-finger.ensures ∙ ap (λ o. x ∷ listed_some o) w.in-Some.is in
-          spot_here {k = g.K.Kind.kind} g.met.K.Kind.lawful c.args.arena.now c.args.level c.args.question c.args.passed x (listed c.args.digit) c.requires.formed _ e _ _ w.weigh-weight.ensures w.toward-next.ensures w.if-not-meets.ensures
-      | in_default w ↦ spot_last {k = g.K.Kind.kind} g.met.K.Kind.lawful c.args.arena.now c.args.level c.args.question c.args.passed x (listed c.args.digit) c.requires.formed _ w.in_default.not-Some c.split_first-finger.ensures
-    ]
+    let e : listed c.args.digit ≡ x ∷ listed c.in-Some.others = c.split_first-finger.ensures ∙ ap (λ o. x ∷ listed_some o) c.in-Some.is in
+    spot_here {k = g.K.Kind.kind} g.met.K.Kind.lawful c.args.arena.now c.args.level c.args.question c.args.passed x (listed c.args.digit) c.requires.formed _ e _ _ c.weigh-weight.ensures c.toward-next.ensures c.if-meets.ensures
+
+pub returns-in_default : goal.returns-in_default
+returns-in_default g t c =
+    let x = c.split_first-finger.result.0 in
+    spot_last {k = g.K.Kind.kind} g.met.K.Kind.lawful c.args.arena.now c.args.level c.args.question c.args.passed x (listed c.args.digit) c.requires.formed _ c.in_default.not-Some c.split_first-finger.ensures
