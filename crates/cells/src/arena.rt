@@ -49,6 +49,13 @@ impl<'a, I: Copy, T: Copy> Arena<'a, I, T> {
         self.cells[at as usize].body
     }
 
+    /// How many cells are free.
+    pub fn free(&self) -> u32
+        ensures { result ≡ free_cells self.now }
+    {
+        self.free.count
+    }
+
     /// Has a free cell hold something.
     pub fn take(&mut self, body: Body<I, T>) -> u32
         requires used { is_free body ≡ false }

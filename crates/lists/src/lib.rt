@@ -20,3 +20,6 @@ pub use positions::{item, split_at};
 pub use reads::{length, total};
 pub use seeking::{seek, split_by};
 pub use sides::{pop, push};
+
+#[cfg(test)]
+mod tests;

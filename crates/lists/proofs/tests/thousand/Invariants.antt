@@ -1,0 +1,5 @@
+use Rattle.lists.specs.Lists.{Whole}
+use Rattle.lists.proofs.tests.thousand.Given as goal
+
+abbrev pub invariant-loop-number : goal.invariant-loop-number
+invariant-loop-number g l = Whole l.arena l.root

@@ -1,0 +1,126 @@
+// A list of a thousand items: pushed at both ends by turns, read, cut in two, joined and changed.
+ghost use Rattle.std.specs.Prelude.{◌<◌};
+ghost use Rattle.cells.specs.declared.cell.Root.{Root as RootOf};
+ghost use Rattle.lists.specs.Lists.{Whole};
+
+use super::{Halves, item, join, length, push, split_at, total};
+use cells::arena::Arena;
+use cells::cell::{Body, Cell, EMPTY, Root};
+use cells::side::Side;
+use kinds::{Counted, Tally, Target, Targets};
+use model::levels_for;
+use std::process::Abort;
+use std::test::Fail;
+
+type Kind = Counted<Targets>;
+
+type Lent<'a> = Arena<'a, Target, Tally<u32>>;
+
+const BLANK: Cell<Target, Tally<u32>> = Cell {
+    link: 0,
+    body: Body::Free,
+};
+
+fn target(number: u16) -> Target {
+    Target {
+        number,
+        range: 10 * number as u32,
+    }
+}
+
+// One item more, where the cells that a push may need are free.
+fn pushed(rt: &impl Abort, arena: &mut Lent<'_>, side: Side, number: u16, root: Root) -> Root
+    requires { Whole arena.old root }
+    ensures { Whole arena.new result }
+{
+    let size = length::<Kind>(arena, root);
+    assert!(rt; size < 65535);
+    assert!(rt; 2 * levels_for(size + 1) as u32 <= arena.free());
+    push::<Kind>(arena, side, target(number), root)
+}
+
+// The numbers 1 to 1,000, the odd ones at the back and the even ones in front.
+fn thousand(rt: &impl Abort, arena: &mut Lent<'_>) -> Root
+    ensures { Whole arena.new result }
+{
+    let mut root = EMPTY;
+    for number in 1..1001u16 {
+        let side = if number % 2 == 1 {
+            Side::Back
+        } else {
+            Side::Front
+        };
+        root = pushed(rt, arena, side, number, root);
+    }
+    root
+}
+
+// The number at a position of that list.
+fn expected(position: u32) -> u32
+    requires { position < 1000 }
+{
+    if position < 500 {
+        1000 - 2 * position
+    } else {
+        2 * (position - 500) + 1
+    }
+}
+
+// The list in two, where the cells that this may need are free.
+fn parted(rt: &impl Abort, arena: &mut Lent<'_>, root: Root, position: u32) -> Halves
+    requires { Whole arena.old root }
+    ensures left { Whole arena.new result.left }
+    ensures right { Whole arena.new result.right }
+    ensures stays { (old : RootOf) → Whole arena.old old → Whole arena.new old }
+{
+    let levels = root.levels as u32;
+    assert!(rt; position < length::<Kind>(arena, root));
+    assert!(rt; levels * levels + 3 * levels <= arena.free());
+    split_at::<Kind>(arena, root, position)
+}
+
+// Two lists as one, where the cells that this may need are free.
+fn joined(rt: &impl Abort, arena: &mut Lent<'_>, left: Root, right: Root) -> Root
+    requires left { Whole arena.old left }
+    requires right { Whole arena.old right }
+    ensures whole { Whole arena.new result }
+    ensures stays { (old : RootOf) → Whole arena.old old → Whole arena.new old }
+{
+    let first = length::<Kind>(arena, left);
+    let second = length::<Kind>(arena, right);
+    assert!(rt; first < 65535 && second < 65535);
+    assert!(rt; 10 * levels_for(first + second) as u32 <= arena.free());
+    join::<Kind>(arena, left, right)
+}
+
+// Tells a list from the numbers of the thousand, from one of them on.
+fn reads(rt: &impl Abort, arena: &Lent<'_>, root: Root, from: u32, count: u32)
+    requires { Whole arena.now root }
+{
+    assert_eq!(rt; length::<Kind>(arena, root), count);
+    for position in 0..count {
+        assert!(rt; position < 1000 && from < 1000 && from + position < 1000);
+        let found = item::<Kind>(arena, root, position);
+        assert_eq!(rt; found.number as u32, expected(from + position));
+    }
+}
+
+#[test]
+fn a_thousand_items(rt: HostRuntime) -> Result<(), Fail> {
+    let mut cells = vec![in rt.alloc(); BLANK; 40000]?;
+    let mut arena = Arena::new(&mut cells);
+    let root = thousand(&rt, &mut arena);
+    reads(&rt, &arena, root, 0, 1000);
+    let sum = total::<Kind>(&arena, root);
+    assert_eq!(rt; sum.count, 1000);
+    assert_eq!(rt; sum.inner, 10);
+    let halves = parted(&rt, &mut arena, root, 300);
+    reads(&rt, &arena, halves.left, 0, 300);
+    reads(&rt, &arena, halves.right, 300, 700);
+    let turned = joined(&rt, &mut arena, halves.right, halves.left);
+    assert_eq!(rt; length::<Kind>(&arena, turned), 1000);
+    let again = joined(&rt, &mut arena, halves.left, halves.right);
+    reads(&rt, &arena, again, 0, 1000);
+    reads(&rt, &arena, root, 0, 1000);
+    Ok(())
+}
