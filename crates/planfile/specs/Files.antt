@@ -1,6 +1,6 @@
 -- The file of some lines and targets, byte by byte, and the laws of the format. Assumes nothing.
 use Rattle.std.specs.Prelude.{◌≡◌, ℕ, ◌+◌, ◌/◌, ◌%◌, ◌≤◌, Bool, true, not, ◌&&◌, List, [], ◌∷◌, ◌++◌, length, Ok}
-use Rattle.std.specs.List.{flat_map}
+use Rattle.std.specs.List.{flat_map, list_all}
 use Rattle.kinds.specs.Targets.{is_target}
 use Rattle.kinds.specs.declared.targets.Target.{Target}
 use Rattle.planfile.specs.Format.{Content, is_line, numbered, walk, verdict}
@@ -31,12 +31,10 @@ file_of lines targets = flat_map piece_field lines ++ (flat_map target_field tar
 
 -- The rules for lines and targets, of each in a list.
 abbrev pub all_lines : List (List ℕ) → Bool
-all_lines [] = true
-all_lines (line ∷ more) = is_line line && all_lines more
+all_lines lines = list_all is_line lines
 
 abbrev pub all_targets : List Target → Bool
-all_targets [] = true
-all_targets (t ∷ more) = is_target t && all_targets more
+all_targets targets = list_all is_target targets
 
 -- No number occurs twice.
 abbrev pub distinct : List Target → Bool

@@ -6,8 +6,7 @@ ghost use Rattle.planfile.specs.Files.{piece_field, target_field};
 ghost use Rattle.planfile.specs.Reading.{coming, lines_in, targets_in};
 ghost use Rattle.planfile.specs.Writing.{written, rewritten, rewrite_answer, SaysSame};
 
-use super::put::NO_ROOM;
-use super::{Fields, FileFault, Item, check, put_end, put_piece, put_target};
+use super::{Cause, Fields, FileFault, Item, check, put_end, put_piece, put_target};
 
 /// Writes what an accepted file says to the start of the output, and gives its length.
 pub fn rewrite(file: &[u8], out: &mut [u8]) -> Result<u32, FileFault>
@@ -17,7 +16,7 @@ pub fn rewrite(file: &[u8], out: &mut [u8]) -> Result<u32, FileFault>
 {
     let sum = check(file)?;
     if out.len() < file.len() {
-        return Err(NO_ROOM);
+        return Err(Cause::NoRoom.at(0));
     }
     let items = Fields::of(file);
     let at = put_pieces(items, out, 0)?;

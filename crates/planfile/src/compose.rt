@@ -5,19 +5,9 @@ ghost use Rattle.planfile.specs.Files.{piece_field, target_field, file_of, all_t
 ghost use Rattle.planfile.specs.Text.{lines_of, line_end};
 ghost use Rattle.planfile.specs.Writing.{written, left_after, answer, write_answer, write_output, content_of, SaysSame};
 
-use super::put::NO_ROOM;
+use super::numbers::Numbers;
 use super::{Cause, FileFault, MOST_BYTES, put_end, put_piece, put_target};
 use kinds::{Kind, Target, Targets};
-
-const OUTSIDE: FileFault = FileFault {
-    cause: Cause::TargetOutside,
-    place: 2,
-};
-
-const TWICE: FileFault = FileFault {
-    cause: Cause::NumberTwice,
-    place: 2,
-};
 
 /// Writes the file of a text, cut after each newline, and of targets to the start of the output, and gives its length.
 pub fn write(text: &[u8], targets: &[Target], out: &mut [u8]) -> Result<u32, FileFault>
@@ -26,10 +16,10 @@ pub fn write(text: &[u8], targets: &[Target], out: &mut [u8]) -> Result<u32, Fil
     ensures same { SaysSame (Ok (content_of (lines_of text.now) targets.now)) result out.new }
 {
     if !all_admitted(targets) {
-        return Err(OUTSIDE);
+        return Err(Cause::TargetOutside.at(2));
     }
     if !all_distinct(targets) {
-        return Err(TWICE);
+        return Err(Cause::NumberTwice.at(2));
     }
     put_file(text, targets, out)
 }
@@ -38,25 +28,19 @@ pub fn write(text: &[u8], targets: &[Target], out: &mut [u8]) -> Result<u32, Fil
 fn all_admitted(targets: &[Target]) -> bool
     ensures { result ≡ all_targets targets.now }
 {
-    for target in targets {
-        if !Targets::admits(*target) {
-            return false;
-        }
-    }
-    true
+    targets.iter().all(|target| Targets::admits(*target))
 }
 
-/// Whether no number comes twice, by a table of the numbers seen.
+/// Whether no number comes twice.
 fn all_distinct(targets: &[Target]) -> bool
     requires { all_targets targets.now ≡ true }
     ensures { result ≡ distinct targets.now }
 {
-    let mut seen = [false; 10000];
+    let mut seen = Numbers::none();
     for target in targets {
-        if seen[target.number as usize] {
+        if !seen.insert(target.number) {
             return false;
         }
-        seen[target.number as usize] = true;
     }
     true
 }
@@ -67,12 +51,12 @@ fn put_file(text: &[u8], targets: &[Target], out: &mut [u8]) -> Result<u32, File
     ensures output { out.new ≡ left_after out.old 0 (file_of (lines_of text.now) targets.now) }
 {
     if text.len() > MOST_BYTES || targets.len() > MOST_BYTES {
-        return Err(NO_ROOM);
+        return Err(Cause::NoRoom.at(0));
     }
     let lines = count_lines(text);
     let size = text.len() + 3 * lines + 9 * targets.len() + 5;
     if size > MOST_BYTES || size > out.len() {
-        return Err(NO_ROOM);
+        return Err(Cause::NoRoom.at(0));
     }
     let at = put_lines(text, out)?;
     let at = put_targets(targets, out, at)?;

@@ -1,27 +1,21 @@
 // Writing: a field at a position of the output.
-ghost use Rattle.std.specs.Prelude.{◌≡◌, ◌+◌, ◌≤◌, length, Ok};
-ghost use Rattle.planfile.specs.Files.{two_bytes as in_two_bytes, field_of, piece_field, target_field, end_field};
+ghost use Rattle.std.specs.Prelude.{◌≡◌, ◌+◌, ◌≤◌, length};
+ghost use Rattle.planfile.specs.Files.{field_of, piece_field, target_field, end_field};
 ghost use Rattle.planfile.specs.Writing.{written, left_after, answer};
 
 use super::{Cause, FileFault, MOST_BYTES};
 use kinds::Target;
 
-/// The refusal of what does not fit the output, or a file.
-pub(crate) const NO_ROOM: FileFault = FileFault {
-    cause: Cause::NoRoom,
-    place: 0,
-};
-
 /// Writes a field that fits.
 fn write_field(out: &mut [u8], at: usize, tag: u8, value: &[u8])
-    requires { (at + 3 + length value.now ≤ length out.old) × (length value.now ≤ 65535) }
+    requires room { at + 3 + length value.now ≤ length out.old }
+    requires short { length value.now ≤ 65535 }
     ensures { out.new ≡ written out.old at (field_of tag value.now) }
 {
-    let size = value.len();
-    out[at] = tag;
-    out[at + 1] = (size / 256) as u8;
-    out[at + 2] = (size % 256) as u8;
-    out[at + 3..at + 3 + size].copy_from_slice(value);
+    let [hi, lo] = (value.len() as u16).to_be_bytes();
+    let start = at + 3;
+    out[at..start].copy_from_slice(&[tag, hi, lo]);
+    out[start..start + value.len()].copy_from_slice(value);
 }
 
 /// Writes a field at a position and gives the position after it, or refuses and writes nothing.
@@ -32,7 +26,7 @@ fn put_field(out: &mut [u8], at: u32, tag: u8, value: &[u8]) -> Result<u32, File
     let start = at as usize;
     let end = start + 3 + value.len();
     if end > out.len() || end > MOST_BYTES {
-        return Err(NO_ROOM);
+        return Err(Cause::NoRoom.at(0));
     }
     write_field(out, start, tag, value);
     Ok(end as u32)
@@ -51,9 +45,8 @@ pub fn put_target(out: &mut [u8], at: u32, target: Target) -> Result<u32, FileFa
     ensures answer { result ≡ answer out.old at (target_field target) }
     ensures output { out.new ≡ left_after out.old at (target_field target) }
 {
-    let [n1, n0] = two_bytes(target.number);
-    let [r3, r2] = two_bytes((target.range / 65536) as u16);
-    let [r1, r0] = two_bytes((target.range % 65536) as u16);
+    let [n1, n0] = target.number.to_be_bytes();
+    let [r3, r2, r1, r0] = target.range.to_be_bytes();
     put_field(out, at, 0x03, &[n1, n0, r3, r2, r1, r0])
 }
 
@@ -62,12 +55,5 @@ pub fn put_end(out: &mut [u8], at: u32, count: u16) -> Result<u32, FileFault>
     ensures answer { result ≡ answer out.old at (end_field count) }
     ensures output { out.new ≡ left_after out.old at (end_field count) }
 {
-    put_field(out, at, 0x7F, &two_bytes(count))
-}
-
-/// A number in two bytes, the high one first.
-fn two_bytes(n: u16) -> [u8; 2]
-    ensures { result ≡ in_two_bytes n }
-{
-    [(n / 256) as u8, (n % 256) as u8]
+    put_field(out, at, 0x7F, &count.to_be_bytes())
 }

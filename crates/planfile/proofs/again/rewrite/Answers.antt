@@ -1,4 +1,4 @@
-use Rattle.std.proofs.Common.{◌+◌, ◌≤◌, ◌++◌, length, sym, ap, ◌∙◌, ap₂, arith, rules}
+use Rattle.std.proofs.Common.{◌+◌, ◌≤◌, ◌++◌, length, Err, sym, ap, ◌∙◌, ap₂, arith, rules}
 use Rattle.std.specs.List.{flat_map}
 use Rattle.planfile.specs.Files.{piece_field, target_field, end_field}
 use Rattle.planfile.specs.Reading.{coming, content_in}
@@ -11,7 +11,7 @@ returns-then-out-file c =
     let file = c.args.file.now in
     let a = accepted file c.in_ok-sum.sum c.in_ok-sum.ensures.verdict in
     let none = no_room file c.args.out.now _ a c.if-out-file.true in
-    record { answer = none.0; output = none.1; same = tt }
+    record { answer = ap Err c.at.ensures ∙ none.0; output = none.1; same = tt }
 
 pub put_pieces-requires : goal.put_pieces-requires
 put_pieces-requires c =

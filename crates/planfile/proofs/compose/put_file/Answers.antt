@@ -1,4 +1,4 @@
-use Rattle.std.proofs.Common.{◌≡◌, ◌+◌, ◌≤◌, ◌++◌, length, Ok, ap, ◌∙◌, inl, inr, arith}
+use Rattle.std.proofs.Common.{◌≡◌, ◌+◌, ◌≤◌, ◌++◌, length, Ok, Err, ap, ◌∙◌, inl, inr, arith}
 use Rattle.std.specs.List.{flat_map}
 use Rattle.planfile.specs.Files.{piece_field, target_field, end_field, file_of}
 use Rattle.planfile.specs.Text.{lines_of}
@@ -14,7 +14,7 @@ returns-then-text-gt-MOST_BYTES c =
     let text = c.args.text.now in
     let ts = c.args.targets.now in
     let u = unfit_long c.args.out.now (file_of (lines_of text) ts) (elim c.then-text-gt-MOST_BYTES.either [ inl p ↦ omega (arith, p, file_size text ts) | inr p ↦ omega (arith, p.1, file_size text ts) ]) in
-    record { answer = u.answer; output = u.output }
+    record { answer = ap Err c.at.ensures ∙ u.answer; output = u.output }
 
 pub returns-then-size-gt-MOST_BYTES : goal.returns-then-size-gt-MOST_BYTES
 returns-then-size-gt-MOST_BYTES c =
@@ -23,7 +23,7 @@ returns-then-size-gt-MOST_BYTES c =
     let size = file_size text ts in
     let n = c.count_lines-lines.ensures.lines in
     let u : Unfit c.args.out.now (file_of (lines_of text) ts) = elim c.then-size-gt-MOST_BYTES.either [ inl p ↦ unfit_long _ _ (omega (arith, p, size, n)) | inr p ↦ unfit_short _ _ (omega (arith, p.1, size, n)) ] in
-    record { answer = u.answer; output = u.output }
+    record { answer = ap Err c.at-then-size-gt-MOST_BYTES.ensures ∙ u.answer; output = u.output }
 
 pub put_lines-requires : goal.put_lines-requires
 put_lines-requires c =
