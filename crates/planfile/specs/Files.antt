@@ -3,7 +3,7 @@ use Rattle.std.specs.Prelude.{◌≡◌, ℕ, ◌+◌, ◌/◌, ◌%◌, ◌≤�
 use Rattle.std.specs.List.{flat_map, list_all}
 use Rattle.kinds.specs.Targets.{is_target}
 use Rattle.kinds.specs.declared.targets.Target.{Target}
-use Rattle.planfile.specs.Format.{Content, is_line, numbered, walk, verdict}
+use Rattle.planfile.specs.Format.{Content, Meaning, piece, target, end, is_line, numbered, walk, verdict}
 
 -- A number in two bytes, or in four: high byte first.
 abbrev pub two_bytes : ℕ → List ℕ
@@ -24,6 +24,12 @@ target_field t = field_of 0x03 (two_bytes t.number ++ four_bytes t.range)
 
 abbrev pub end_field : ℕ → List ℕ
 end_field count = field_of 0x7F (two_bytes count)
+
+-- The field that says so.
+abbrev pub field_saying : Meaning → List ℕ
+field_saying (piece line) = piece_field line
+field_saying (target t) = target_field t
+field_saying (end count) = end_field count
 
 -- The lines, then the targets, then the end.
 abbrev pub file_of : List (List ℕ) → List Target → List ℕ

@@ -1,12 +1,12 @@
 // A file made of a text and of targets.
-ghost use Rattle.std.specs.Prelude.{◌≡◌, ◌+◌, ◌≤◌, true, length, Ok};
-ghost use Rattle.std.specs.List.{flat_map};
-ghost use Rattle.planfile.specs.Files.{piece_field, target_field, file_of, all_targets, distinct};
-ghost use Rattle.planfile.specs.Text.{lines_of, line_end};
-ghost use Rattle.planfile.specs.Writing.{written, left_after, answer, write_answer, write_output, content_of, SaysSame};
+ghost use Rattle.std.specs.Prelude.{◌≡◌, ◌≤◌, true, length, Ok, ◌==◌};
+ghost use Rattle.planfile.specs.Files.{file_of, all_targets, distinct};
+ghost use Rattle.planfile.specs.Text.{lines_of};
+ghost use Rattle.planfile.specs.Writing.{left_after, answer, write_answer, write_output, content_of, SaysSame};
 
 use super::numbers::Numbers;
-use super::{Cause, FileFault, MOST_BYTES, put_end, put_piece, put_target};
+use super::put::put_all;
+use super::{Cause, FileFault, Item, MOST_BYTES, put_end};
 use kinds::{Kind, Target, Targets};
 
 /// Writes the file of a text, cut after each newline, and of targets to the start of the output, and gives its length.
@@ -58,21 +58,16 @@ fn put_file(text: &[u8], targets: &[Target], out: &mut [u8]) -> Result<u32, File
     if size > MOST_BYTES || size > out.len() {
         return Err(Cause::NoRoom.at(0));
     }
-    let at = put_lines(text, out)?;
-    let at = put_targets(targets, out, at)?;
+    let at = put_all(text.split_inclusive(is_newline).map(Item::Piece), out, 0)?;
+    let at = put_all(targets.iter().map(target_item), out, at)?;
     put_end(out, at, (lines + targets.len()) as u16)
 }
 
-/// How many bytes the first line has.
-fn first_line(text: &[u8]) -> usize
-    ensures { result ≡ line_end text.now }
+/// Whether a byte ends a line.
+fn is_newline(byte: &u8) -> bool
+    ensures { result ≡ (byte.now == 0x0A) }
 {
-    for (i, byte) in text.iter().enumerate() {
-        if *byte == b'\n' {
-            return i + 1;
-        }
-    }
-    text.len()
+    *byte == b'\n'
 }
 
 /// How many lines the text has.
@@ -80,40 +75,12 @@ fn count_lines(text: &[u8]) -> usize
     ensures lines { result ≡ length (lines_of text.now) }
     ensures few { result ≤ length text.now }
 {
-    let mut left = text;
-    let mut count = 0;
-    while !left.is_empty() {
-        let (_, rest) = left.split_at(first_line(left));
-        left = rest;
-        count += 1;
-    }
-    count
+    text.split_inclusive(is_newline).count()
 }
 
-/// Writes each line of the text, for which there is room, and gives the position after them.
-fn put_lines(text: &[u8], out: &mut [u8]) -> Result<u32, FileFault>
-    requires { (length (flat_map piece_field (lines_of text.now)) ≤ length out.old) × (length (flat_map piece_field (lines_of text.now)) ≤ 65535) }
-    ensures answer { result ≡ Ok (length (flat_map piece_field (lines_of text.now))) }
-    ensures output { out.new ≡ written out.old 0 (flat_map piece_field (lines_of text.now)) }
+/// A target as an item.
+fn target_item<'a>(target: &'a Target) -> Item<'a>
+    ensures { result ≡ Item.Target target.now }
 {
-    let mut left = text;
-    let mut at = 0;
-    while !left.is_empty() {
-        let (line, rest) = left.split_at(first_line(left));
-        at = put_piece(out, at, line)?;
-        left = rest;
-    }
-    Ok(at)
-}
-
-/// Writes each target, for which there is room, and gives the position after them.
-fn put_targets(targets: &[Target], out: &mut [u8], mut at: u32) -> Result<u32, FileFault>
-    requires { (at + length (flat_map target_field targets.now) ≤ length out.old) × (at + length (flat_map target_field targets.now) ≤ 65535) }
-    ensures answer { result ≡ Ok (at + length (flat_map target_field targets.now)) }
-    ensures output { out.new ≡ written out.old at (flat_map target_field targets.now) }
-{
-    for target in targets {
-        at = put_target(out, at, *target)?;
-    }
-    Ok(at)
+    Item::Target(*target)
 }

@@ -1,9 +1,13 @@
 // Writing: a field at a position of the output.
-ghost use Rattle.std.specs.Prelude.{◌≡◌, ◌+◌, ◌≤◌, length};
-ghost use Rattle.planfile.specs.Files.{field_of, piece_field, target_field, end_field};
-ghost use Rattle.planfile.specs.Writing.{written, left_after, answer};
+ghost use Rattle.std.specs.Prelude.{◌≡◌, ◌+◌, ◌≤◌, List, length};
+ghost use Rattle.std.specs.List.{flat_map};
+ghost use Rattle.std.specs.Iterator.{IsFinite, AlwaysYields};
+ghost use Rattle.planfile.specs.Format.{Meaning};
+ghost use Rattle.planfile.specs.Files.{field_of, piece_field, target_field, end_field, field_saying};
+ghost use Rattle.planfile.specs.Reading.{item_said};
+ghost use Rattle.planfile.specs.Writing.{written, left_after, answer, Appends};
 
-use super::{Cause, FileFault, MOST_BYTES};
+use super::{Cause, FileFault, Item, MOST_BYTES};
 use kinds::Target;
 
 /// Writes a field that fits.
@@ -56,4 +60,32 @@ pub fn put_end(out: &mut [u8], at: u32, count: u16) -> Result<u32, FileFault>
     ensures output { out.new ≡ left_after out.old at (end_field count) }
 {
     put_field(out, at, 0x7F, &count.to_be_bytes())
+}
+
+/// Appends one item.
+fn put_item(out: &mut [u8], at: u32, item: Item<'_>) -> Result<u32, FileFault>
+    ensures answer { result ≡ answer out.old at (field_saying (item_said item.entry)) }
+    ensures output { out.new ≡ left_after out.old at (field_saying (item_said item.entry)) }
+{
+    match item {
+        Item::Piece(line) => put_piece(out, at, line),
+        Item::Target(target) => put_target(out, at, target),
+    }
+}
+
+/// Appends the items, and gives the position after them: where there is room for all of them, just these.
+pub(crate) fn put_all<'a, I: Iterator<Item = Item<'a>> + Drop>(
+    items: I,
+    out: &mut [u8],
+    mut at: u32,
+) -> Result<u32, FileFault>
+    requires can { I.can_next items }
+    requires ends { IsFinite (I.remaining items) }
+    ensures { (all : List Meaning) → AlwaysYields I.next_gives item_said items all →
+        Appends out.old at (flat_map field_saying all) result out.new }
+{
+    for item in items {
+        at = put_item(out, at, item)?;
+    }
+    Ok(at)
 }
