@@ -35,18 +35,18 @@ pub record Under (file left : List ℕ) (seen : Numbers) (sum : Summary) : Type 
 pub whole : (file : List ℕ) → length file ≤ 65535 → walk (length file) (length file) nothing file ≡ verdict file
 whole file h = rw (le-ltb 65535 (length file) h)
 
-pub start : (file : List ℕ) → length file ≤ 65535 → (seen : Numbers) → ((n : ℕ) → has seen n ≡ false) → Under file file seen (record { pieces = 0; targets = 0; text = 0 })
-start file h seen none =
+pub start : (file : List ℕ) → length file ≤ 65535 → (seen : Numbers) → ((n : ℕ) → has seen n ≡ false) → (sum : Summary) → (sum.pieces ≡ 0) × ((sum.targets ≡ 0) × (sum.text ≡ 0)) → Under file file seen sum
+start file h seen none sum begun =
     record {
       most = length file;
       content = nothing;
       enough = omega arith;
       same = whole file h;
-      fields = omega arith;
-      bytes = omega arith;
-      pieces = refl;
-      targets = refl;
-      text = refl;
+      fields = omega (arith, begun.0, begun.1.0);
+      bytes = omega (arith, begun.1.1);
+      pieces = begun.0;
+      targets = begun.1.0;
+      text = begun.1.1;
       table = none;
     }
 

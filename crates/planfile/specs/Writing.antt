@@ -21,6 +21,11 @@ left_after out at field = cond (fits out at field) (written out at field) out
 abbrev pub answer : List ℕ → ℕ → List ℕ → Result ℕ FileFault
 answer out at field = cond (fits out at field) (Ok (at + length field)) (Err (record { cause = NoRoom; place = 0 }))
 
+-- What putting a field gives: the answer, and the output after it.
+pub record Puts (out : List ℕ) (at : ℕ) (field : List ℕ) (result : Result ℕ FileFault) (after : List ℕ) : Type 0 where
+  pub answered : result ≡ answer out at field
+  pub output : after ≡ left_after out at field
+
 -- Bytes that fit are written, and the position after them is the answer.
 abbrev pub Appends : List ℕ → ℕ → List ℕ → Result ℕ FileFault → List ℕ → Type 0
 Appends out at bytes result after = fits out at bytes ≡ true → (result ≡ Ok (at + length bytes)) × (after ≡ written out at bytes)

@@ -2,7 +2,7 @@
 ghost use Rattle.std.specs.Prelude.{◌≡◌, ◌≤◌, true, length, Ok, ◌==◌};
 ghost use Rattle.planfile.specs.Files.{file_of, all_targets, distinct};
 ghost use Rattle.planfile.specs.Text.{lines_of};
-ghost use Rattle.planfile.specs.Writing.{left_after, answer, write_answer, write_output, content_of, SaysSame};
+ghost use Rattle.planfile.specs.Writing.{Puts, write_answer, write_output, content_of, SaysSame};
 
 use super::numbers::Numbers;
 use super::put::put_all;
@@ -37,6 +37,7 @@ fn all_distinct(targets: &[Target]) -> bool
     ensures { result ≡ distinct targets.now }
 {
     let mut seen = Numbers::none();
+    // No `all`: of a closure that changes the set, a contract says nothing.
     for target in targets {
         if !seen.insert(target.number) {
             return false;
@@ -47,8 +48,7 @@ fn all_distinct(targets: &[Target]) -> bool
 
 /// Writes the file where it fits, else refuses and writes nothing.
 fn put_file(text: &[u8], targets: &[Target], out: &mut [u8]) -> Result<u32, FileFault>
-    ensures answer { result ≡ answer out.old 0 (file_of (lines_of text.now) targets.now) }
-    ensures output { out.new ≡ left_after out.old 0 (file_of (lines_of text.now) targets.now) }
+    ensures { Puts out.old 0 (file_of (lines_of text.now) targets.now) result out.new }
 {
     if text.len() > MOST_BYTES || targets.len() > MOST_BYTES {
         return Err(Cause::NoRoom.at(0));
@@ -78,7 +78,7 @@ fn count_lines(text: &[u8]) -> usize
     text.split_inclusive(is_newline).count()
 }
 
-/// A target as an item.
+/// A target as an item, with the lifetime of the list: the bare variant leaves that open, which the check does not cover.
 fn target_item<'a>(target: &'a Target) -> Item<'a>
     ensures { result ≡ Item.Target target.now }
 {

@@ -24,8 +24,8 @@ impl Numbers {
         ensures fresh { result ≡ not (has self.old number) }
         ensures noted { (n : ℕ) → has self.new n ≡ (has self.old n || number == n) }
     {
-        let fresh = !self.seen[number as usize];
-        self.seen[number as usize] = true;
+        let fresh = !self.seen[usize::from(number)];
+        self.seen[usize::from(number)] = true;
         fresh
     }
 }

@@ -5,7 +5,7 @@ ghost use Rattle.std.specs.Iterator.{IsFinite, AlwaysYields};
 ghost use Rattle.planfile.specs.Format.{Meaning};
 ghost use Rattle.planfile.specs.Files.{field_of, piece_field, target_field, end_field, field_saying};
 ghost use Rattle.planfile.specs.Reading.{item_said};
-ghost use Rattle.planfile.specs.Writing.{written, left_after, answer, Appends};
+ghost use Rattle.planfile.specs.Writing.{written, Puts, Appends};
 
 use super::{Cause, FileFault, Item, MOST_BYTES};
 use kinds::Target;
@@ -22,10 +22,12 @@ fn write_field(out: &mut [u8], at: usize, tag: u8, value: &[u8])
     out[start..start + value.len()].copy_from_slice(value);
 }
 
+// The output and the position travel side by side, as users pass them: a struct of both would be made in each function
+// and taken apart again for the position in the answer.
+
 /// Writes a field at a position and gives the position after it, or refuses and writes nothing.
 fn put_field(out: &mut [u8], at: u32, tag: u8, value: &[u8]) -> Result<u32, FileFault>
-    ensures answer { result ≡ answer out.old at (field_of tag value.now) }
-    ensures output { out.new ≡ left_after out.old at (field_of tag value.now) }
+    ensures { Puts out.old at (field_of tag value.now) result out.new }
 {
     let start = at as usize;
     let end = start + 3 + value.len();
@@ -38,16 +40,14 @@ fn put_field(out: &mut [u8], at: u32, tag: u8, value: &[u8]) -> Result<u32, File
 
 /// Appends one line.
 pub fn put_piece(out: &mut [u8], at: u32, line: &[u8]) -> Result<u32, FileFault>
-    ensures answer { result ≡ answer out.old at (piece_field line.now) }
-    ensures output { out.new ≡ left_after out.old at (piece_field line.now) }
+    ensures { Puts out.old at (piece_field line.now) result out.new }
 {
     put_field(out, at, 0x02, line)
 }
 
 /// Appends one target.
 pub fn put_target(out: &mut [u8], at: u32, target: Target) -> Result<u32, FileFault>
-    ensures answer { result ≡ answer out.old at (target_field target) }
-    ensures output { out.new ≡ left_after out.old at (target_field target) }
+    ensures { Puts out.old at (target_field target) result out.new }
 {
     let [n1, n0] = target.number.to_be_bytes();
     let [r3, r2, r1, r0] = target.range.to_be_bytes();
@@ -56,16 +56,14 @@ pub fn put_target(out: &mut [u8], at: u32, target: Target) -> Result<u32, FileFa
 
 /// Appends the end of a file with so many fields before it.
 pub fn put_end(out: &mut [u8], at: u32, count: u16) -> Result<u32, FileFault>
-    ensures answer { result ≡ answer out.old at (end_field count) }
-    ensures output { out.new ≡ left_after out.old at (end_field count) }
+    ensures { Puts out.old at (end_field count) result out.new }
 {
     put_field(out, at, 0x7F, &count.to_be_bytes())
 }
 
 /// Appends one item.
 fn put_item(out: &mut [u8], at: u32, item: Item<'_>) -> Result<u32, FileFault>
-    ensures answer { result ≡ answer out.old at (field_saying (item_said item.entry)) }
-    ensures output { out.new ≡ left_after out.old at (field_saying (item_said item.entry)) }
+    ensures { Puts out.old at (field_saying (item_said item.entry)) result out.new }
 {
     match item {
         Item::Piece(line) => put_piece(out, at, line),

@@ -9,7 +9,7 @@ use super::{Cause, FileFault, Item, MOST_BYTES};
 use kinds::{Kind, Target, Targets};
 
 /// How much a file holds.
-#[derive(Clone, Copy, PartialEq, Eq, Debug)]
+#[derive(Clone, Copy, PartialEq, Eq, Debug, Default)]
 pub struct Summary {
     pub pieces: u32,
     pub targets: u32,
@@ -84,22 +84,17 @@ fn read_field(tag: u8, value: &[u8]) -> Result<Field<'_>, Cause>
 pub fn first_field(bytes: &[u8]) -> Result<Step<'_>, Cause>
     ensures { stepped result ≡ front bytes.now }
 {
+    // The form of a field stands as a pattern: a tag, its length high byte first, and the rest.
     let [tag, hi, lo, after @ ..] = bytes else {
         return Err(Cause::ShortHeader);
     };
     let size = u16::from_be_bytes([*hi, *lo]);
-    let Some((value, rest)) = after.split_at_checked(size as usize) else {
+    let Some((value, rest)) = after.split_at_checked(usize::from(size)) else {
         return Err(Cause::ShortValue);
     };
     let field = read_field(*tag, value)?;
     Ok(Step { field, rest })
 }
-
-const NOTHING: Summary = Summary {
-    pieces: 0,
-    targets: 0,
-    text: 0,
-};
 
 /// The verdict on a whole file: how much it holds, or the first fault.
 pub fn check(file: &[u8]) -> Result<Summary, FileFault>
@@ -119,8 +114,9 @@ fn scan(file: &[u8]) -> Result<Summary, FileFault>
     ensures { result ≡ counted (verdict file.now) }
 {
     let mut seen = Numbers::none();
-    let mut sum = NOTHING;
+    let mut sum = Summary::default();
     let mut left = file;
+    // A `for` over fields would hide what is left, from which each place is counted.
     while !left.is_empty() {
         let place = (file.len() - left.len()) as u32;
         let Step { field, rest } = first_field(left).map_err(|cause| cause.at(place))?;
@@ -135,7 +131,7 @@ fn scan(file: &[u8]) -> Result<Summary, FileFault>
                 }
                 sum.targets += 1;
             }
-            Field::End(count) if count as u32 != sum.pieces + sum.targets => {
+            Field::End(count) if u32::from(count) != sum.pieces + sum.targets => {
                 return Err(Cause::WrongCount.at(place));
             }
             Field::End(_) if !rest.is_empty() => {

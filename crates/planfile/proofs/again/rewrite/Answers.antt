@@ -1,4 +1,4 @@
-use Rattle.std.proofs.Common.{◌≡◌, ◌+◌, ◌≤◌, ◌++◌, filter, length, Err, sym, refl, ap, ◌∙◌, ap₂, subst, arith, rules, tests}
+use Rattle.std.proofs.Common.{◌≡◌, ◌+◌, ◌≤◌, ◌++◌, length, Err, sym, refl, ap, ◌∙◌, ap₂, subst, arith, rules, tests}
 use Rattle.std.specs.List.{flat_map}
 use Rattle.std.proofs.lemmas.Iterator.Consumers.{YieldsList-at, YieldsList-from_first, YieldsList-from_filter}
 use Rattle.planfile.specs.Files.{piece_field, target_field, end_field}
@@ -77,7 +77,7 @@ returns c =
     let all = YieldsList-from_first item_said coming coming_items refl in
     let lines = subst (λ b. Appends out 0 b c.put_all.result c.put_all.new.out) (lines_put coming_items) (c.put_all.ensures _ (YieldsList-from_filter _ is_piece (YieldsList-at c.filter-lines.ensures.source all) c.filter-lines.ensures.closure (λ x b q k. search (rules, tests))).runs) in
     let targets = subst (λ b. Appends c.put_all.new.out c.in_ok-at.at b c.put_all-2.result c.put_all-2.new.out) (targets_put coming_items) (c.put_all-2.ensures _ (YieldsList-from_filter _ is_aim (YieldsList-at c.filter-targets.ensures.source all) c.filter-targets.ensures.closure (λ x b q k. search (rules, tests))).runs) in
-    let put = three_put out p t e room few _ _ lines _ c.in_ok-at.was c.put_all.auto.out _ _ targets _ c.in_ok-at-2.was (c.put_all-2.auto.out ∙ c.put_all.auto.out) _ _ c.put_end.ensures.answer c.put_end.ensures.output in
+    let put = three_put out p t e room few _ _ lines _ c.in_ok-at.was c.put_all.auto.out _ _ targets _ c.in_ok-at-2.was (c.put_all-2.auto.out ∙ c.put_all.auto.out) _ _ c.put_end.ensures.answered c.put_end.ensures.output in
     let same = ap₂ (λ d n. flat_map piece_field d.lines ++ (flat_map target_field d.targets ++ end_field n)) is a.count in
     let answered = put.0 ∙ ap (answer out 0) same ∙ sym (ap (λ v. rewrite_answer v out) a.is) in
     let output = put.1 ∙ ap (left_after out 0) same ∙ sym (ap (λ v. rewritten v out) a.is) in

@@ -19,7 +19,7 @@ returns-then-text-gt-MOST_BYTES c =
     let text = c.args.text.now in
     let ts = c.args.targets.now in
     let u = unfit_long c.args.out.now (file_of (lines_of text) ts) (elim c.then-text-gt-MOST_BYTES.either [ inl p ↦ omega (arith, p, file_size text ts) | inr p ↦ omega (arith, p.1, file_size text ts) ]) in
-    record { answer = ap Err c.at.ensures ∙ u.answer; output = u.output }
+    record { answered = ap Err c.at.ensures ∙ u.answer; output = u.output }
 
 pub returns-then-size-gt-MOST_BYTES : goal.returns-then-size-gt-MOST_BYTES
 returns-then-size-gt-MOST_BYTES c =
@@ -28,7 +28,7 @@ returns-then-size-gt-MOST_BYTES c =
     let size = file_size text ts in
     let n = c.count_lines-lines.ensures.lines in
     let u : Unfit c.args.out.now (file_of (lines_of text) ts) = elim c.then-size-gt-MOST_BYTES.either [ inl p ↦ unfit_long _ _ (omega (arith, p, size, n)) | inr p ↦ unfit_short _ _ (omega (arith, p.1, size, n)) ] in
-    record { answer = ap Err c.at-then-size-gt-MOST_BYTES.ensures ∙ u.answer; output = u.output }
+    record { answered = ap Err c.at-then-size-gt-MOST_BYTES.ensures ∙ u.answer; output = u.output }
 
 pub returns-in_err-at : goal.returns-in_err-at
 returns-in_err-at c =
@@ -75,6 +75,6 @@ returns c =
     let few : length p + length t + length e ≤ 65535 = omega (arith, n, sizes, c.if-size-gt-MOST_BYTES.false) in
     let lines = subst (λ b. Appends out 0 b c.put_all.result c.put_all.new.out) (flat_map-map field_saying piece (lines_of text)) (c.put_all.ensures _ (YieldsList-from_map_by _ item_said piece (YieldsList-at c.map.ensures.source (split_lines _ _ text c.split_inclusive.ensures.rest (answers_always _ _ _ (λ f a r g h. search rules)))) c.map.ensures.closure (λ x r q k. search rules)).runs) in
     let targets = subst (λ b. Appends c.put_all.new.out c.in_ok-at.at b c.put_all-2.result c.put_all-2.new.out) (flat_map-map field_saying target ts) (c.put_all-2.ensures _ (YieldsList-from_map_by _ item_said target (YieldsList-at c.map-2.ensures.source (YieldsList-from_slice ts c.iter.ensures.rest)) c.map-2.ensures.closure (λ x r q k. search rules)).runs) in
-    let put = three_put out p t e room few _ _ lines _ c.in_ok-at.was c.put_all.auto.out _ _ targets _ c.in_ok-at-2.was (c.put_all-2.auto.out ∙ c.put_all.auto.out) _ _ c.put_end.ensures.answer c.put_end.ensures.output in
+    let put = three_put out p t e room few _ _ lines _ c.in_ok-at.was c.put_all.auto.out _ _ targets _ c.in_ok-at-2.was (c.put_all-2.auto.out ∙ c.put_all.auto.out) _ _ c.put_end.ensures.answered c.put_end.ensures.output in
     let same : p ++ (t ++ e) ≡ file_of (lines_of text) ts = ap (λ k. p ++ (t ++ end_field (k + length ts))) n in
-    record { answer = put.0 ∙ ap (answer out 0) same; output = put.1 ∙ ap (left_after out 0) same }
+    record { answered = put.0 ∙ ap (answer out 0) same; output = put.1 ∙ ap (left_after out 0) same }

@@ -12,7 +12,7 @@ pub returns-in_err-at : goal.returns-in_err-at
 returns-in_err-at g c = λ all always room.
     let left = c.loop-item.invariant.2 all (subst (λ s. AlwaysYields g.I.Iterator.next_gives item_said s all) (sym c.into_iter-item-iterator.ensures.into_iter_gives) always) room in
     let more = taken g.I.Iterator.next_gives item_said _ _ c.in-Some.item left.0 left.1 c.in-Some.ensures.steps in
-    absurd (put_refused field_saying _ _ _ _ _ _ _ _ more.1 left.2 _ c.in_err-at.ensures.answer)
+    absurd (put_refused field_saying _ _ _ _ _ _ _ _ more.1 left.2 _ c.in_err-at.ensures.answered)
 
 pub loop-item-preserved : goal.loop-item-preserved
 loop-item-preserved g c =
@@ -22,7 +22,7 @@ loop-item-preserved g c =
       λ all always room.
           let left = c.loop-item.invariant.2 all always room in
           let more = taken g.I.Iterator.next_gives item_said _ _ c.in-Some.item left.0 left.1 c.in-Some.ensures.steps in
-          (more.0, more.2, put_more field_saying _ _ _ _ _ _ _ _ more.1 left.2 _ _ c.put_item.auto.out put.output put.answer),
+          (more.0, more.2, put_more field_saying _ _ _ _ _ _ _ _ more.1 left.2 _ _ c.put_item.auto.out put.output put.answered),
     )
 
 pub returns : goal.returns

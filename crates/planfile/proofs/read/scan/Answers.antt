@@ -1,4 +1,4 @@
-use Rattle.std.proofs.Common.{◌≡◌, ◌-◌, ◌<◌, length, Ok, Err, ap, ◌∙◌, arith, rules}
+use Rattle.std.proofs.Common.{◌≡◌, ◌-◌, ◌<◌, length, Ok, Err, sym, ap, ◌∙◌, arith, rules}
 use Rattle.std.proofs.lemmas.Result.{err_from_is_err_and}
 use Rattle.planfile.specs.Format.{◌then◌}
 use Rattle.planfile.specs.Faults.{fault_at}
@@ -11,7 +11,7 @@ use Rattle.planfile.proofs.Walks.{start, front_read, fault_read, at_fault, at_pi
 use Rattle.planfile.proofs.read.scan.Goals as goal
 
 pub loop-left-init : goal.loop-left-init
-loop-left-init c = start c.args.file.now c.requires _ c.none-seen.ensures
+loop-left-init c = start c.args.file.now c.requires _ c.none-seen.ensures _ c.default-sum.ensures
 
 pub returns-in_err-field : goal.returns-in_err-field
 returns-in_err-field c =
@@ -43,7 +43,8 @@ returns-in-End c =
     let step = c.in_ok-field.field-0 in
     let is = front_read c.loop-left.left.now _ _ _ step c.first_field.ensures c.map_err.ensures.cases c.in_ok-field.was in
     let over = is ∙ ap (λ f. Ok (said f then step.rest.now)) c.in-End.is in
-    ap Err c.at-in-End.ensures ∙ at_wrong_count _ _ _ _ some c.loop-left.invariant c.in-End.count step.rest.now over c.if-count-sum.true
+    let from_gives : c.from.result ≡ c.in-End.count = search rules in
+    ap Err c.at-in-End.ensures ∙ at_wrong_count _ _ _ _ some c.loop-left.invariant c.in-End.count step.rest.now over (λ e. c.if-from-sum.true (from_gives ∙ e))
 
 pub returns-in-End-2 : goal.returns-in-End-2
 returns-in-End-2 c =
@@ -52,7 +53,8 @@ returns-in-End-2 c =
     let is = front_read c.loop-left.left.now _ _ _ step c.first_field.ensures c.map_err.ensures.cases c.in_ok-field.was in
     let over = is ∙ ap (λ f. Ok (said f then step.rest.now)) c.in-End.is in
     let more : 0 < length step.rest.now = search rules in
-    ap Err c.at-in-End-2.ensures ∙ at_more _ _ _ _ some c.loop-left.invariant c.in-End.count step.rest.now over c.if-count-sum.false more
+    let from_gives : c.from.result ≡ c.in-End.count = search rules in
+    ap Err c.at-in-End-2.ensures ∙ at_more _ _ _ _ some c.loop-left.invariant c.in-End.count step.rest.now over (sym from_gives ∙ c.if-from-sum.false) more
 
 pub returns-in-End-3 : goal.returns-in-End-3
 returns-in-End-3 c =
@@ -61,7 +63,8 @@ returns-in-End-3 c =
     let is = front_read c.loop-left.left.now _ _ _ step c.first_field.ensures c.map_err.ensures.cases c.in_ok-field.was in
     let over = is ∙ ap (λ f. Ok (said f then step.rest.now)) c.in-End.is in
     let none : length step.rest.now ≡ 0 = search rules in
-    at_end _ _ _ _ some c.loop-left.invariant c.in-End.count step.rest.now over c.if-count-sum.false none
+    let from_gives : c.from.result ≡ c.in-End.count = search rules in
+    at_end _ _ _ _ some c.loop-left.invariant c.in-End.count step.rest.now over (sym from_gives ∙ c.if-from-sum.false) none
 
 pub loop-left-smaller-in-Item-Piece : goal.loop-left-smaller-in-Item-Piece
 loop-left-smaller-in-Item-Piece c =
