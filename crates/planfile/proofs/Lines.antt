@@ -1,5 +1,5 @@
 -- A line by its last byte and those before it. Assumes nothing.
-use Rattle.std.proofs.Common.{◌≡◌, ℕ, zero, suc, Bool, true, false, not, ◌&&◌, ◌||◌, eqb, List, [], ◌∷◌, length, take, refl, ap, ◌∙◌, arith}
+use Rattle.std.proofs.Common.{◌≡◌, ℕ, zero, suc, ◌<◌, Bool, true, false, not, ◌&&◌, ◌||◌, eqb, List, [], ◌∷◌, length, take, refl, ap, ◌∙◌, arith}
 use Rattle.std.specs.List.{list_any}
 use Rattle.planfile.specs.Format.{is_empty, is_line}
 
@@ -19,6 +19,10 @@ pub line_some : (xs : List ℕ) → is_line xs ≡ true → is_empty xs ≡ fals
 line_some [] e = let z : ◌≡◌ {A = ℕ} 0 1 = cc in absurd (omega arith)
 line_some (b ∷ more) e = refl
 
-pub not_empty : (xs : List ℕ) (k : ℕ) → length xs ≡ suc k → is_empty xs ≡ false
-not_empty [] k h = absurd (omega (arith, h))
-not_empty (b ∷ more) k h = refl
+pub empty : (xs : List ℕ) → length xs ≡ 0 → is_empty xs ≡ true
+empty [] none = refl
+empty (b ∷ more) none = absurd (omega (arith, none))
+
+pub not_empty : (xs : List ℕ) → 0 < length xs → is_empty xs ≡ false
+not_empty [] some = absurd (omega arith)
+not_empty (b ∷ more) some = refl

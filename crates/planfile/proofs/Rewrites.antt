@@ -10,7 +10,7 @@ use Rattle.planfile.specs.declared.read.Summary.{Summary}
 use Rattle.planfile.specs.Format.{Content, Meaning, piece, target, end, fields_in, verdict}
 use Rattle.planfile.specs.Files.{piece_field, target_field, field_saying, file_of, all_lines, all_targets, distinct}
 use Rattle.planfile.specs.Reading.{counts, counted, lines_in, targets_in}
-use Rattle.planfile.specs.Writing.{fits, written, left_after, answer, rewritten, rewrite_answer, Appends, SaysSame}
+use Rattle.planfile.specs.Writing.{fits, written, left_after, answer, rewritten, rewrite_answer, Puts, Appends, SaysSame}
 use Rattle.planfile.proofs.Outcomes.{never, same_ok, cond_ok, cond_ok_else}
 use Rattle.planfile.proofs.Returns.{long_joined, reads_back}
 use Rattle.planfile.proofs.Rules.{keeps_rules}
@@ -161,39 +161,50 @@ targets_put (target t ∷ more) = ap (λ l. target_field t ++ l) (targets_put mo
 targets_put (end count ∷ more) = targets_put more
 
 -- three runs of bytes, one after another
-module _ (out p t e : List ℕ) (room : length p + length t + length e ≤ length out) (few : length p + length t + length e ≤ 65535) (r₁ : Result ℕ FileFault) (out₁ : List ℕ) (first : Appends out 0 p r₁ out₁) where
+module _ (out p t e : List ℕ) (room : fits out 0 (p ++ (t ++ e)) ≡ true) (r₁ : Result ℕ FileFault) (out₁ : List ℕ) (first : Appends out 0 p r₁ out₁) where
+  sizes : length (p ++ (t ++ e)) ≡ length p + (length t + length e)
+  sizes = simp length-append
+
+  long : length p + (length t + length e) ≤ length out
+  long = omega (arith, sizes, leb-true (0 + length (p ++ (t ++ e))) (length out) (and_parts (leb (0 + length (p ++ (t ++ e))) (length out)) (leb (0 + length (p ++ (t ++ e))) 65535) room).0)
+
+  few : length p + (length t + length e) ≤ 65535
+  few = omega (arith, sizes, leb-true (0 + length (p ++ (t ++ e))) 65535 (and_parts (leb (0 + length (p ++ (t ++ e))) (length out)) (leb (0 + length (p ++ (t ++ e))) 65535) room).1)
+
   one : (r₁ ≡ Ok (0 + length p)) × (out₁ ≡ written out 0 p)
-  one = first (fitting out 0 p (omega arith) (omega arith))
+  one = first (fitting out 0 p (omega (arith, long)) (omega (arith, few)))
 
   pub first_put : (f : FileFault) → r₁ ≡ Err f → ⊥
   first_put f is = never f _ (sym is ∙ one.0)
 
-  module _ (at₁ : ℕ) (ok : r₁ ≡ Ok at₁) (long : length out₁ ≡ length out) (r₂ : Result ℕ FileFault) (out₂ : List ℕ) (second : Appends out₁ at₁ t r₂ out₂) where
+  module _ (at₁ : ℕ) (ok : r₁ ≡ Ok at₁) (same : length out₁ ≡ length out) (r₂ : Result ℕ FileFault) (out₂ : List ℕ) (second : Appends out₁ at₁ t r₂ out₂) where
     place : at₁ ≡ 0 + length p
     place = same_ok (sym ok ∙ one.0)
 
     two : (r₂ ≡ Ok (at₁ + length t)) × (out₂ ≡ written out₁ at₁ t)
-    two = second (fitting out₁ at₁ t (omega (arith, place)) (omega (arith, place)))
+    two = second (fitting out₁ at₁ t (omega (arith, place, long)) (omega (arith, place, few)))
 
     pub second_put : (f : FileFault) → r₂ ≡ Err f → ⊥
     second_put f is = never f _ (sym is ∙ two.0)
 
-    pub three_put : (at₂ : ℕ) → r₂ ≡ Ok at₂ → length out₂ ≡ length out → (r : Result ℕ FileFault) (out₃ : List ℕ) → r ≡ answer out₂ at₂ e → out₃ ≡ left_after out₂ at₂ e → (r ≡ answer out 0 (p ++ (t ++ e))) × (out₃ ≡ left_after out 0 (p ++ (t ++ e)))
-    three_put at₂ ok-two long-two r out₃ is-r is-out₃ =
+    pub third_put : (at₂ : ℕ) → r₂ ≡ Ok at₂ → length out₂ ≡ length out → (r : Result ℕ FileFault) (out₃ : List ℕ) → Puts out₂ at₂ e r out₃ → (r ≡ Ok (0 + length (p ++ (t ++ e)))) × (out₃ ≡ written out 0 (p ++ (t ++ e)))
+    third_put at₂ ok-two same-two r out₃ third =
         let is_at₁ : at₁ ≡ 0 + length p = place in
         let is_at₂ : at₂ ≡ at₁ + length t = same_ok (sym ok-two ∙ two.0) in
-        let all = p ++ (t ++ e) in
-        let sizes : length all ≡ length p + (length t + length e) = simp length-append in
-        let ends : at₂ + length e ≡ 0 + length all = omega arith in
-        let whole = fitting out 0 all (omega arith) (omega arith) in
-        let last = fitting out₂ at₂ e (omega arith) (omega arith) in
-        let pt : out₂ ≡ written out 0 (p ++ t) = two.1 ∙ ap₂ (λ o n. written o n t) one.1 is_at₁ ∙ written_more out 0 p t (omega arith) in
+        let ends : at₂ + length e ≡ 0 + length (p ++ (t ++ e)) = omega (arith, sizes) in
+        let last = fitting out₂ at₂ e (omega (arith, long)) (omega (arith, few)) in
+        let pt : out₂ ≡ written out 0 (p ++ t) = two.1 ∙ ap₂ (λ o n. written o n t) one.1 is_at₁ ∙ written_more out 0 p t (omega (arith, long)) in
         let at_pt : at₂ ≡ 0 + length (p ++ t) = simp length-append (omega arith) in
-        let room_pt : 0 + length (p ++ t) + length e ≤ length out = simp length-append (omega arith) in
-        let pte : written out₂ at₂ e ≡ written out 0 all = ap₂ (λ o n. written o n e) pt at_pt ∙ written_more out 0 (p ++ t) e room_pt ∙ ap (written out 0) (append_assoc p t e) in (
-          is-r ∙ cond-true (fits out₂ at₂ e) _ _ last ∙ ap Ok ends ∙ sym (cond-true (fits out 0 all) _ _ whole),
-          is-out₃ ∙ cond-true (fits out₂ at₂ e) _ _ last ∙ pte ∙ sym (cond-true (fits out 0 all) _ _ whole),
-        )
+        let room_pt : 0 + length (p ++ t) + length e ≤ length out = simp length-append (omega (arith, long)) in
+        let pte : written out₂ at₂ e ≡ written out 0 (p ++ (t ++ e)) = ap₂ (λ o n. written o n e) pt at_pt ∙ written_more out 0 (p ++ t) e room_pt ∙ ap (written out 0) (append_assoc p t e) in
+        (third.answered ∙ cond-true (fits out₂ at₂ e) _ _ last ∙ ap Ok ends, third.output ∙ cond-true (fits out₂ at₂ e) _ _ last ∙ pte)
+
+-- bytes that fit and are written are put
+pub put_fits_whole : (out : List ℕ) (f : List ℕ) (r : Result ℕ FileFault) (after : List ℕ) → 0 + length f ≤ length out → 0 + length f ≤ 65535 → Appends out 0 f r after → Puts out 0 f r after
+put_fits_whole out f r after p q done =
+    let whole = fitting out 0 f p q in
+    let is = done whole in
+    record { answered = is.0 ∙ sym (cond-true (fits out 0 f) _ _ whole); output = is.1 ∙ sym (cond-true (fits out 0 f) _ _ whole) }
 
 -- a content within the rules, written where it fits, is read again
 pub reads_as : (c : Content) (out : List ℕ) → all_lines c.lines ≡ true → all_targets c.targets ≡ true → distinct c.targets ≡ true → (r : Result ℕ FileFault) (after : List ℕ) → r ≡ answer out 0 (file_of c.lines c.targets) → after ≡ left_after out 0 (file_of c.lines c.targets) → SaysSame (Ok c) r after

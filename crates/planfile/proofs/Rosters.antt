@@ -1,7 +1,9 @@
 -- One target more, as a list of targets is gone through. Assumes nothing.
 use Rattle.std.proofs.Common.{◌≡◌, ℕ, zero, suc, ◌+◌, ◌<◌, Bool, true, false, not, ◌||◌, eqb, List, [], ◌∷◌, ◌++◌, length, get_or, take, drop, sym, refl, ap, ◌∙◌, ⊎_elim, arith, take-append-drop}
 use Rattle.std.proofs.lemmas.List.{drop_more, take_more}
-use Rattle.std.proofs.lemmas.Bool.{and_parts, cases_Bool}
+use Rattle.std.proofs.lemmas.List.Elements.{All-get_or}
+use Rattle.std.proofs.lemmas.List.Sums.{AllPass-from_list_all}
+use Rattle.std.proofs.lemmas.Bool.{cases_Bool}
 use Rattle.kinds.specs.Targets.{is_target}
 use Rattle.kinds.specs.declared.targets.Target.{Target}
 use Rattle.planfile.specs.declared.numbers.Numbers.{Numbers}
@@ -27,9 +29,7 @@ new_number false is e = refl
 
 -- each of the targets is within its limits
 pub each_target : (ts : List Target) (i : ℕ) (d : Target) → i < length ts → all_targets ts ≡ true → is_target (get_or ts i d) ≡ true
-each_target [] i d h ok = absurd (omega arith)
-each_target (t ∷ ts) zero d h ok = (and_parts (is_target t) (all_targets ts) ok).0
-each_target (t ∷ ts) (suc i) d h ok = each_target ts i d (omega arith) (and_parts (is_target t) (all_targets ts) ok).1
+each_target ts i d h ok = All-get_or (λ t. is_target t ≡ true) ts i d h (AllPass-from_list_all is_target ts ok)
 
 -- where the search for a repeated number stands: the targets before i, and the numbers seen
 pub record Sifted (ts : List Target) (i : ℕ) (seen : Numbers) : Type 0 where

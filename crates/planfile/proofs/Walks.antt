@@ -1,6 +1,8 @@
 -- One field more of a file, as the check goes through it. Assumes nothing.
 use Rattle.std.proofs.Common.{◌≡◌, ℕ, zero, suc, ◌+◌, ◌-◌, ◌<◌, ◌≤◌, true, false, cond, ◌||◌, eqb, List, [], ◌∷◌, ◌++◌, length, Ok, Err, Result, sym, refl, ap, ◌∙◌, subst, arith, length-append}
-use mathlib.Core.Bool.{or-false, or_assoc}
+use mathlib.Core.Bool.{or-false}
+use Rattle.std.specs.Prelude.{◌==◌}
+use Rattle.std.proofs.lemmas.List.Folds.{list_any-append}
 use native.Mathlib.Nat.{sub-zero}
 use Rattle.std.proofs.lemmas.Bool.{le-ltb, lt-ltb, eq-eqb, ne_eqb}
 use Rattle.planfile.specs.declared.faults.Cause.TheVariants.{TooLong, RepeatedNumber, WrongCount, TrailingBytes, MissingEnd}
@@ -16,6 +18,7 @@ use Rattle.planfile.specs.Files.{EnoughFields}
 use Rattle.planfile.specs.Numbers.{has}
 use Rattle.planfile.specs.Reading.{text_bytes, counts, counted, said, stepped}
 use Rattle.std.specs.Result.{MatchResult, IsErrAnd}
+use Rattle.planfile.proofs.Lines.{empty, not_empty}
 use Rattle.planfile.proofs.Outcomes.{never, same_ok}
 use Rattle.planfile.proofs.Fronts.{fronted, fronted_length, fronted_piece, fronted_target, low_number}
 
@@ -79,8 +82,7 @@ text_more [] line = omega arith
 text_more (l ∷ lines) line = omega (arith, text_more lines line)
 
 pub numbered_more : (n : ℕ) (ts : List Target) (t : Target) → numbered n (ts ++ (t ∷ [])) ≡ (numbered n ts || eqb t.number n)
-numbered_more n [] t = or-false (eqb t.number n)
-numbered_more n (s ∷ ts) t = ap (λ b. eqb s.number n || b) (numbered_more n ts t) ∙ sym (or_assoc (eqb s.number n) (numbered n ts) (eqb t.number n))
+numbered_more n ts t = list_any-append (λ s. s.number == n) ts (t ∷ []) ∙ ap (λ b. numbered n ts || b) (or-false (eqb t.number n))
 
 -- one number more
 pub noted : (seen after : Numbers) (ts : List Target) (t : Target) → ((n : ℕ) → has after n ≡ (has seen n || eqb t.number n)) → ((n : ℕ) → has seen n ≡ numbered n ts) → (n : ℕ) → has after n ≡ numbered n (ts ++ (t ∷ []))
@@ -105,14 +107,6 @@ front_read left r m P s e cases is = sym e ∙ ap stepped (read_ok r m P s cases
 
 pub fault_read : (left : List ℕ) (r : Result Step Cause) (m : Result Step FileFault) (P : Cause → FileFault → Type 0) (f : FileFault) → stepped r ≡ front left → MatchResult r (λ x. m ≡ Ok x) (λ cause. IsErrAnd m (P cause)) → m ≡ Err f → (cause : Cause) × (front left ≡ Err cause) × P cause f
 fault_read left r m P f e cases is = let q = read_err r m P f cases is in (q.0, sym e ∙ ap stepped q.1, q.2)
-
-empty : (bytes : List ℕ) → length bytes ≡ 0 → is_empty bytes ≡ true
-empty [] none = refl
-empty (b ∷ more) none = absurd (omega (arith, none))
-
-not_empty : (bytes : List ℕ) → 0 < length bytes → is_empty bytes ≡ false
-not_empty [] some = absurd (omega arith)
-not_empty (b ∷ more) some = refl
 
 module _ (file left : List ℕ) (seen : Numbers) (sum : Summary) (some : 0 < length left) (u : Under file left seen sum) where
   -- the verdict, by the field that comes next

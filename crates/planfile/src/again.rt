@@ -3,8 +3,8 @@ ghost use Rattle.std.specs.Prelude.{◌≡◌};
 ghost use Rattle.planfile.specs.Format.{verdict};
 ghost use Rattle.planfile.specs.Writing.{rewritten, rewrite_answer, SaysSame};
 
-use super::put::put_all;
-use super::{Cause, Fields, FileFault, Item, check, put_end};
+use super::put::put_whole;
+use super::{Cause, Fields, FileFault, Item, check};
 
 /// Writes what an accepted file says to the start of the output, and gives its length.
 pub fn rewrite(file: &[u8], out: &mut [u8]) -> Result<u32, FileFault>
@@ -19,7 +19,5 @@ pub fn rewrite(file: &[u8], out: &mut [u8]) -> Result<u32, FileFault>
     let items = Fields::of(file);
     let lines = items.filter(|item| matches!(item, Item::Piece(_)));
     let targets = items.filter(|item| matches!(item, Item::Target(_)));
-    let at = put_all(lines, out, 0)?;
-    let at = put_all(targets, out, at)?;
-    put_end(out, at, (sum.pieces + sum.targets) as u16)
+    put_whole(lines, targets, (sum.pieces + sum.targets) as u16, out)
 }

@@ -5,8 +5,8 @@ ghost use Rattle.planfile.specs.Text.{lines_of};
 ghost use Rattle.planfile.specs.Writing.{Puts, write_answer, write_output, content_of, SaysSame};
 
 use super::numbers::Numbers;
-use super::put::put_all;
-use super::{Cause, FileFault, Item, MOST_BYTES, put_end};
+use super::put::put_whole;
+use super::{Cause, FileFault, Item, MOST_BYTES};
 use kinds::{Kind, Target, Targets};
 
 /// Writes the file of a text, cut after each newline, and of targets to the start of the output, and gives its length.
@@ -58,9 +58,9 @@ fn put_file(text: &[u8], targets: &[Target], out: &mut [u8]) -> Result<u32, File
     if size > MOST_BYTES || size > out.len() {
         return Err(Cause::NoRoom.at(0));
     }
-    let at = put_all(text.split_inclusive(is_newline).map(Item::Piece), out, 0)?;
-    let at = put_all(targets.iter().map(target_item), out, at)?;
-    put_end(out, at, (lines + targets.len()) as u16)
+    let count = (lines + targets.len()) as u16;
+    let lines = text.split_inclusive(is_newline).map(Item::Piece);
+    put_whole(lines, targets.iter().map(target_item), count, out)
 }
 
 /// Whether a byte ends a line.

@@ -1,5 +1,5 @@
 // Writing: a field at a position of the output.
-ghost use Rattle.std.specs.Prelude.{◌≡◌, ◌+◌, ◌≤◌, List, length};
+ghost use Rattle.std.specs.Prelude.{◌≡◌, ◌+◌, ◌≤◌, List, ◌++◌, length};
 ghost use Rattle.std.specs.List.{flat_map};
 ghost use Rattle.std.specs.Iterator.{IsFinite, AlwaysYields};
 ghost use Rattle.planfile.specs.Format.{Meaning};
@@ -72,7 +72,7 @@ fn put_item(out: &mut [u8], at: u32, item: Item<'_>) -> Result<u32, FileFault>
 }
 
 /// Appends the items, and gives the position after them: where there is room for all of them, just these.
-pub(crate) fn put_all<'a, I: Iterator<Item = Item<'a>> + Drop>(
+fn put_all<'a, I: Iterator<Item = Item<'a>> + Drop>(
     items: I,
     out: &mut [u8],
     mut at: u32,
@@ -86,4 +86,23 @@ pub(crate) fn put_all<'a, I: Iterator<Item = Item<'a>> + Drop>(
         at = put_item(out, at, item)?;
     }
     Ok(at)
+}
+
+/// Writes lines and targets and an end that counts so many of them: where there is room for all, just these.
+pub(crate) fn put_whole<
+    'a,
+    L: Iterator<Item = Item<'a>> + Drop,
+    T: Iterator<Item = Item<'a>> + Drop,
+>(lines: L, targets: T, count: u16, out: &mut [u8]) -> Result<u32, FileFault>
+    requires lines_can { L.can_next lines }
+    requires lines_end { IsFinite (L.remaining lines) }
+    requires targets_can { T.can_next targets }
+    requires targets_end { IsFinite (T.remaining targets) }
+    ensures { (ls ts : List Meaning) → AlwaysYields L.next_gives item_said lines ls →
+        AlwaysYields T.next_gives item_said targets ts →
+        Appends out.old 0 (flat_map field_saying ls ++ (flat_map field_saying ts ++ end_field count)) result out.new }
+{
+    let at = put_all(lines, out, 0)?;
+    let at = put_all(targets, out, at)?;
+    put_end(out, at, count)
 }
