@@ -14,7 +14,7 @@ pub(crate) fn print_file<'a>(rt: &HostRuntime, name: &'a str) -> Result<(), Stop
     let file = show::accept(rt, name)?;
     let targets = show::targets_of(rt.alloc(), &file)?;
     let mut order = vec![in rt.alloc(); BLANK; targets.len()]?;
-    labels::labels(&targets, &mut order).map_err(|fault| Stop::Labels(name, fault))?;
+    labels::labels(&targets, &mut order).map_err(|fault| Stop::Labels { name, fault })?;
     print_labels(rt, &order)?;
     Ok(())
 }

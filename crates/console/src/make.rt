@@ -3,6 +3,9 @@ use crate::stop::Stop;
 use crate::{files, roster, show};
 use planfile::MOST_BYTES;
 
+// Both commands lend room for the longest file and cut it to size. One function of a closure that is lent the room was
+// tried, and its calls were not proved.
+
 pub(crate) fn make<'a>(
     rt: &HostRuntime,
     text: &'a str,
@@ -12,11 +15,11 @@ pub(crate) fn make<'a>(
     let text = files::read(rt, text)?;
     let list = roster::read(rt, targets)?;
     let mut file = vec![in rt.alloc(); 0u8; MOST_BYTES]?;
-    let size = planfile::write(&text, &list, &mut file).map_err(|fault| Stop::File(
-        out,
+    let size = planfile::write(&text, &list, &mut file).map_err(|fault| Stop::File {
+        name: out,
         fault,
-        roster::repeated(&list),
-    ))?;
+        twice: roster::repeated(&list),
+    })?;
     file.truncate(size as usize);
     files::save(rt, out, &file)?;
     println!(rt; "{out} was made.")?;
@@ -26,7 +29,11 @@ pub(crate) fn make<'a>(
 pub(crate) fn rewrite<'a>(rt: &HostRuntime, name: &'a str, out: &'a str) -> Result<(), Stop<'a>> {
     let file = files::read(rt, name)?;
     let mut again = vec![in rt.alloc(); 0u8; MOST_BYTES]?;
-    let size = planfile::rewrite(&file, &mut again).map_err(|fault| Stop::File(name, fault, None))?;
+    let size = planfile::rewrite(&file, &mut again).map_err(|fault| Stop::File {
+        name,
+        fault,
+        twice: None,
+    })?;
     again.truncate(size as usize);
     files::save(rt, out, &again)?;
     println!(rt; "{name} was read and written again to {out}, with the same lines and targets.")?;

@@ -32,7 +32,11 @@ pub(crate) fn read<'a>(rt: &HostRuntime, name: &'a str) -> Result<Vec<Target>, S
     let mut targets = Vec::new(rt.alloc());
     for (number, line) in (1..=u64::MAX).zip(text.lines()) {
         if !line.trim().is_empty() {
-            let target = parse(line).map_err(|slip| Stop::WrongLine(name, number, slip))?;
+            let target = parse(line).map_err(|slip| Stop::WrongLine {
+                name,
+                line: number,
+                slip,
+            })?;
             targets.push(target)?;
         }
     }

@@ -20,7 +20,11 @@ pub(crate) fn tell_summary<'a>(
     name: &'a str,
     file: &[u8],
 ) -> Result<(), Stop<'a>> {
-    let sum = planfile::check(file).map_err(|fault| Stop::File(name, fault, None))?;
+    let sum = planfile::check(file).map_err(|fault| Stop::File {
+        name,
+        fault,
+        twice: None,
+    })?;
     summarize(rt, name, sum)?;
     Ok(())
 }

@@ -15,14 +15,31 @@ pub enum Stop<'a> {
     Unknown(&'a str),
     /// The words after the name are not those that the command takes.
     Usage(Verb),
-    Unreadable(&'a str, io::Error),
-    Unwritable(&'a str, io::Error),
+    Unreadable {
+        name: &'a str,
+        error: io::Error,
+    },
+    Unwritable {
+        name: &'a str,
+        error: io::Error,
+    },
     NoText(&'a str),
-    /// A line of a file of targets, counted from 1.
-    WrongLine(&'a str, u64, Slip),
-    /// A plan file is refused, and the number that two of its targets have, if that is why.
-    File(&'a str, FileFault, Option<u16>),
-    Labels(&'a str, LabelFault),
+    /// A line of a file of targets, counted from 1, is none.
+    WrongLine {
+        name: &'a str,
+        line: u64,
+        slip: Slip,
+    },
+    /// A plan file is refused; `twice` is a number that two of its targets have.
+    File {
+        name: &'a str,
+        fault: FileFault,
+        twice: Option<u16>,
+    },
+    Labels {
+        name: &'a str,
+        fault: LabelFault,
+    },
 }
 
 impl From<io::Error> for Stop<'_> {
@@ -52,19 +69,22 @@ impl fmt::Display for Stop<'_> {
                 "There is no command {word}. The command help lists all commands."
             ),
             Stop::Usage(verb) => write!(f, "Nothing was done. The command is: {verb}"),
-            Stop::Unreadable(name, error) => write!(f, "The file {name} cannot be read: {error}."),
-            Stop::Unwritable(name, error) => {
+            Stop::Unreadable { name, error } => write!(
+                f,
+                "The file {name} cannot be read: {error}."
+            ),
+            Stop::Unwritable { name, error } => {
                 write!(f, "The file {name} cannot be written: {error}.")
             }
             Stop::NoText(name) => write!(f, "The file {name} is no text."),
-            Stop::WrongLine(name, line, slip) => {
+            Stop::WrongLine { name, line, slip } => {
                 write!(
                     f,
                     "Nothing was made. Line {line} of {name} is wrong: {slip}."
                 )
             }
-            Stop::File(name, fault, twice) => file_refused(f, name, *fault, *twice),
-            Stop::Labels(name, fault) => write!(f, "{name} is refused with {fault}."),
+            Stop::File { name, fault, twice } => file_refused(f, name, *fault, *twice),
+            Stop::Labels { name, fault } => write!(f, "{name} is refused with {fault}."),
         }
     }
 }
