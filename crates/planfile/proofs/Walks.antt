@@ -8,11 +8,12 @@ use Rattle.std.proofs.lemmas.Bool.{le-ltb, lt-ltb, eq-eqb, ne_eqb}
 use Rattle.planfile.specs.declared.faults.Cause.TheVariants.{TooLong, RepeatedNumber, WrongCount, TrailingBytes, MissingEnd}
 use Rattle.planfile.specs.declared.faults.Cause.{Cause}
 use Rattle.planfile.specs.declared.faults.FileFault.{FileFault}
+use Rattle.planfile.specs.declared.read.Field.{Field}
 use Rattle.planfile.specs.declared.read.Step.{Step}
 use Rattle.planfile.specs.declared.read.Summary.{Summary}
 use Rattle.kinds.specs.declared.targets.Target.{Target}
 use Rattle.planfile.specs.declared.numbers.Numbers.{Numbers}
-use Rattle.planfile.specs.Format.{Content, nothing, with_line, with_target, fields_in, numbered, is_empty, piece, target, end, ◌then◌, Front, front, fault, judged, walk, verdict}
+use Rattle.planfile.specs.Format.{Content, nothing, with_line, with_target, fields_in, numbered, piece, target, end, ◌then◌, Front, front, fault, judged, walk, verdict}
 use Rattle.planfile.specs.Faults.{fault_at}
 use Rattle.planfile.specs.Files.{EnoughFields}
 use Rattle.planfile.specs.Numbers.{has}
@@ -102,8 +103,8 @@ read_err : (r : Result Step Cause) (m : Result Step FileFault) (P : Cause → Fi
 read_err (Ok x) m P f cases is = absurd (never f x (sym is ∙ cases))
 read_err (Err cause) m P f cases is = (cause, refl, subst (λ n. IsErrAnd n (P cause)) is cases)
 
-pub front_read : (left : List ℕ) (r : Result Step Cause) (m : Result Step FileFault) (P : Cause → FileFault → Type 0) (s : Step) → stepped r ≡ front left → MatchResult r (λ x. m ≡ Ok x) (λ cause. IsErrAnd m (P cause)) → m ≡ Ok s → front left ≡ Ok (said s.field then s.rest.now)
-front_read left r m P s e cases is = sym e ∙ ap stepped (read_ok r m P s cases is)
+pub field_read : (left : List ℕ) (r : Result Step Cause) (m : Result Step FileFault) (P : Cause → FileFault → Type 0) (s : Step) (f : Field) → stepped r ≡ front left → MatchResult r (λ x. m ≡ Ok x) (λ cause. IsErrAnd m (P cause)) → m ≡ Ok s → s.field ≡ f → front left ≡ Ok (said f then s.rest.now)
+field_read left r m P s f e cases is field = sym e ∙ ap stepped (read_ok r m P s cases is) ∙ ap (λ g. Ok (said g then s.rest.now)) field
 
 pub fault_read : (left : List ℕ) (r : Result Step Cause) (m : Result Step FileFault) (P : Cause → FileFault → Type 0) (f : FileFault) → stepped r ≡ front left → MatchResult r (λ x. m ≡ Ok x) (λ cause. IsErrAnd m (P cause)) → m ≡ Err f → (cause : Cause) × (front left ≡ Err cause) × P cause f
 fault_read left r m P f e cases is = let q = read_err r m P f cases is in (q.0, sym e ∙ ap stepped q.1, q.2)

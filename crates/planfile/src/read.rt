@@ -1,6 +1,6 @@
 // Reading: each field by itself, and the verdict on a whole file.
-ghost use Rattle.std.specs.Prelude.{◌≡◌, ◌+◌, ◌-◌, ◌*◌, ◌<◌, ◌≤◌, length};
-ghost use Rattle.planfile.specs.Format.{is_line as is_a_line, meaning, piece_meaning, target_meaning, end_meaning, front, verdict};
+ghost use Rattle.std.specs.Prelude.{◌≡◌, ◌≤◌, length};
+ghost use Rattle.planfile.specs.Format.{meaning, piece_meaning, target_meaning, end_meaning, front, verdict};
 ghost use Rattle.planfile.specs.Files.{KeepsRules, EnoughFields};
 ghost use Rattle.planfile.specs.Reading.{counted, stepped, told};
 

@@ -1,9 +1,9 @@
-use Rattle.std.proofs.Common.{◌≡◌, ◌+◌, ◌≤◌, ◌++◌, length, Err, sym, refl, ap, ◌∙◌, ap₂, subst, arith, rules, tests}
+use Rattle.std.proofs.Common.{◌+◌, ◌≤◌, ◌++◌, Err, sym, refl, ap, ◌∙◌, ap₂, subst, arith, rules, tests}
 use Rattle.std.specs.List.{flat_map}
 use Rattle.std.proofs.lemmas.Iterator.Consumers.{YieldsList-at, YieldsList-from_first, YieldsList-from_filter}
 use Rattle.planfile.specs.Files.{piece_field, target_field, end_field, file_of}
-use Rattle.planfile.specs.Reading.{coming, content_in, item_said}
-use Rattle.planfile.specs.Writing.{left_after, answer, rewritten, rewrite_answer, Appends}
+use Rattle.planfile.specs.Reading.{coming, item_said}
+use Rattle.planfile.specs.Writing.{rewritten, rewrite_answer, Appends}
 use Rattle.planfile.proofs.Rewrites.{accepted, content_size, no_room, is_piece, is_aim, lines_put, targets_put, put_fits_whole, says_same}
 use Rattle.planfile.proofs.again.rewrite.Goals as goal
 

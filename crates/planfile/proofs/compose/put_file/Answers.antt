@@ -1,4 +1,4 @@
-use Rattle.std.proofs.Common.{◌≡◌, ◌+◌, ◌*◌, ◌≤◌, ◌++◌, length, Err, ap, ◌∙◌, ap₂, subst, inl, inr, arith, rules}
+use Rattle.std.proofs.Common.{◌+◌, ◌++◌, length, Err, ap, ◌∙◌, ap₂, subst, inl, inr, arith, rules}
 use Rattle.std.specs.List.{flat_map}
 use Rattle.std.proofs.lemmas.Iterator.{YieldsList-from_slice, YieldsList-from_map_by}
 use Rattle.std.proofs.lemmas.Iterator.Consumers.{YieldsList-at}
@@ -8,7 +8,7 @@ use Rattle.planfile.specs.Format.{piece, target}
 use Rattle.planfile.specs.Files.{piece_field, target_field, end_field, field_saying, file_of}
 use Rattle.planfile.specs.Reading.{item_said}
 use Rattle.planfile.specs.Text.{lines_of}
-use Rattle.planfile.specs.Writing.{answer, left_after, Appends}
+use Rattle.planfile.specs.Writing.{Appends}
 use Rattle.planfile.proofs.Cuts.{split_lines}
 use Rattle.planfile.proofs.Composes.{file_size}
 use Rattle.planfile.proofs.Rewrites.{Unfit, unfit_short, unfit_long, put_fits_whole}

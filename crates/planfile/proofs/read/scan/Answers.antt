@@ -1,13 +1,12 @@
-use Rattle.std.proofs.Common.{◌≡◌, ◌-◌, ◌<◌, length, Ok, Err, sym, ap, ◌∙◌, arith, rules}
+use Rattle.std.proofs.Common.{◌≡◌, ◌-◌, ◌<◌, length, Err, sym, refl, ap, ◌∙◌, arith, rules}
 use Rattle.std.proofs.lemmas.Result.{err_from_is_err_and}
-use Rattle.planfile.specs.Format.{◌then◌}
 use Rattle.planfile.specs.Faults.{fault_at}
 use Rattle.planfile.specs.declared.fields.Item.TheVariants.{Piece, Target as Aim}
 use Rattle.planfile.specs.declared.read.Field.TheVariants.{Item as One}
 use Rattle.planfile.specs.Reading.{said}
 use Rattle.planfile.proofs.Fronts.{fronted, fronted_length}
 use Rattle.planfile.proofs.Rosters.{new_number, old_number}
-use Rattle.planfile.proofs.Walks.{start, front_read, fault_read, at_fault, at_piece, at_target, at_repeat, low, at_wrong_count, at_more, at_end, at_nothing}
+use Rattle.planfile.proofs.Walks.{start, field_read, fault_read, at_fault, at_piece, at_target, at_repeat, low, at_wrong_count, at_more, at_end, at_nothing}
 use Rattle.planfile.proofs.read.scan.Goals as goal
 
 pub loop-left-init : goal.loop-left-init
@@ -25,24 +24,21 @@ pub insert-requires : goal.insert-requires
 insert-requires c =
     let some : 0 < length c.loop-left.left.now = search rules in
     let step = c.in_ok-field.field-0 in
-    let is = front_read c.loop-left.left.now _ _ _ step c.first_field.ensures c.map_err.ensures.cases c.in_ok-field.was in
     let field : step.field ≡ One (Aim c.in-Item-Target.target) = search rules in
-    low _ _ _ _ some c.loop-left.invariant c.in-Item-Target.target step.rest.now (is ∙ ap (λ f. Ok (said f then step.rest.now)) field)
+    low _ _ _ _ some c.loop-left.invariant c.in-Item-Target.target step.rest.now (field_read c.loop-left.left.now _ _ _ step _ c.first_field.ensures c.map_err.ensures.cases c.in_ok-field.was field)
 
 pub returns-then-not-insert : goal.returns-then-not-insert
 returns-then-not-insert c =
     let some : 0 < length c.loop-left.left.now = search rules in
     let step = c.in_ok-field.field-0 in
-    let is = front_read c.loop-left.left.now _ _ _ step c.first_field.ensures c.map_err.ensures.cases c.in_ok-field.was in
     let field : step.field ≡ One (Aim c.in-Item-Target.target) = search rules in
-    ap Err c.at.ensures ∙ at_repeat _ _ _ _ some c.loop-left.invariant c.in-Item-Target.target step.rest.now (is ∙ ap (λ f. Ok (said f then step.rest.now)) field) (old_number _ c.insert.ensures.fresh c.if-not-insert.true)
+    ap Err c.at.ensures ∙ at_repeat _ _ _ _ some c.loop-left.invariant c.in-Item-Target.target step.rest.now (field_read c.loop-left.left.now _ _ _ step _ c.first_field.ensures c.map_err.ensures.cases c.in_ok-field.was field) (old_number _ c.insert.ensures.fresh c.if-not-insert.true)
 
 pub returns-in-End : goal.returns-in-End
 returns-in-End c =
     let some : 0 < length c.loop-left.left.now = search rules in
     let step = c.in_ok-field.field-0 in
-    let is = front_read c.loop-left.left.now _ _ _ step c.first_field.ensures c.map_err.ensures.cases c.in_ok-field.was in
-    let over = is ∙ ap (λ f. Ok (said f then step.rest.now)) c.in-End.is in
+    let over = field_read c.loop-left.left.now _ _ _ step _ c.first_field.ensures c.map_err.ensures.cases c.in_ok-field.was c.in-End.is in
     let from_gives : c.from.result ≡ c.in-End.count = search rules in
     ap Err c.at-in-End.ensures ∙ at_wrong_count _ _ _ _ some c.loop-left.invariant c.in-End.count step.rest.now over (λ e. c.if-from-sum.true (from_gives ∙ e))
 
@@ -50,8 +46,7 @@ pub returns-in-End-2 : goal.returns-in-End-2
 returns-in-End-2 c =
     let some : 0 < length c.loop-left.left.now = search rules in
     let step = c.in_ok-field.field-0 in
-    let is = front_read c.loop-left.left.now _ _ _ step c.first_field.ensures c.map_err.ensures.cases c.in_ok-field.was in
-    let over = is ∙ ap (λ f. Ok (said f then step.rest.now)) c.in-End.is in
+    let over = field_read c.loop-left.left.now _ _ _ step _ c.first_field.ensures c.map_err.ensures.cases c.in_ok-field.was c.in-End.is in
     let more : 0 < length step.rest.now = search rules in
     let from_gives : c.from.result ≡ c.in-End.count = search rules in
     ap Err c.at-in-End-2.ensures ∙ at_more _ _ _ _ some c.loop-left.invariant c.in-End.count step.rest.now over (sym from_gives ∙ c.if-from-sum.false) more
@@ -60,8 +55,7 @@ pub returns-in-End-3 : goal.returns-in-End-3
 returns-in-End-3 c =
     let some : 0 < length c.loop-left.left.now = search rules in
     let step = c.in_ok-field.field-0 in
-    let is = front_read c.loop-left.left.now _ _ _ step c.first_field.ensures c.map_err.ensures.cases c.in_ok-field.was in
-    let over = is ∙ ap (λ f. Ok (said f then step.rest.now)) c.in-End.is in
+    let over = field_read c.loop-left.left.now _ _ _ step _ c.first_field.ensures c.map_err.ensures.cases c.in_ok-field.was c.in-End.is in
     let none : length step.rest.now ≡ 0 = search rules in
     let from_gives : c.from.result ≡ c.in-End.count = search rules in
     at_end _ _ _ _ some c.loop-left.invariant c.in-End.count step.rest.now over (sym from_gives ∙ c.if-from-sum.false) none
@@ -70,31 +64,29 @@ pub loop-left-smaller-in-Item-Piece : goal.loop-left-smaller-in-Item-Piece
 loop-left-smaller-in-Item-Piece c =
     let left = c.loop-left.left.now in
     let step = c.in_ok-field.field-0 in
-    let is = front_read left _ _ _ step c.first_field.ensures c.map_err.ensures.cases c.in_ok-field.was in
+    let is = field_read left _ _ _ step step.field c.first_field.ensures c.map_err.ensures.cases c.in_ok-field.was refl in
     omega (arith, fronted_length left _ _ (fronted left (said step.field) step.rest.now is))
 
 pub loop-left-preserved-in-Item-Piece : goal.loop-left-preserved-in-Item-Piece
 loop-left-preserved-in-Item-Piece c =
     let some : 0 < length c.loop-left.left.now = search rules in
     let step = c.in_ok-field.field-0 in
-    let is = front_read c.loop-left.left.now _ _ _ step c.first_field.ensures c.map_err.ensures.cases c.in_ok-field.was in
     let field : step.field ≡ One (Piece c.in-Item-Piece.line) = search rules in
-    at_piece _ _ _ _ some c.loop-left.invariant c.in-Item-Piece.line.now step.rest.now (is ∙ ap (λ f. Ok (said f then step.rest.now)) field)
+    at_piece _ _ _ _ some c.loop-left.invariant c.in-Item-Piece.line.now step.rest.now (field_read c.loop-left.left.now _ _ _ step _ c.first_field.ensures c.map_err.ensures.cases c.in_ok-field.was field)
 
 pub loop-left-smaller : goal.loop-left-smaller
 loop-left-smaller c =
     let left = c.loop-left.left.now in
     let step = c.in_ok-field.field-0 in
-    let is = front_read left _ _ _ step c.first_field.ensures c.map_err.ensures.cases c.in_ok-field.was in
+    let is = field_read left _ _ _ step step.field c.first_field.ensures c.map_err.ensures.cases c.in_ok-field.was refl in
     omega (arith, fronted_length left _ _ (fronted left (said step.field) step.rest.now is))
 
 pub loop-left-preserved : goal.loop-left-preserved
 loop-left-preserved c =
     let some : 0 < length c.loop-left.left.now = search rules in
     let step = c.in_ok-field.field-0 in
-    let is = front_read c.loop-left.left.now _ _ _ step c.first_field.ensures c.map_err.ensures.cases c.in_ok-field.was in
     let field : step.field ≡ One (Aim c.in-Item-Target.target) = search rules in
-    at_target _ _ _ _ some c.loop-left.invariant c.in-Item-Target.target step.rest.now (is ∙ ap (λ f. Ok (said f then step.rest.now)) field) (new_number _ c.insert.ensures.fresh c.if-not-insert.false) _ c.insert.ensures.noted
+    at_target _ _ _ _ some c.loop-left.invariant c.in-Item-Target.target step.rest.now (field_read c.loop-left.left.now _ _ _ step _ c.first_field.ensures c.map_err.ensures.cases c.in_ok-field.was field) (new_number _ c.insert.ensures.fresh c.if-not-insert.false) _ c.insert.ensures.noted
 
 pub returns : goal.returns
 returns c =
