@@ -1,4 +1,7 @@
 // A line of the script, as a command.
+use crate::stop::Stop;
+use std::alloc::Global;
+use std::fmt;
 
 /// What a line asks for. Names of files are as the script has them.
 #[derive(Clone, Copy)]
@@ -19,15 +22,6 @@ pub enum Command<'a> {
         out: &'a str,
     },
     Hex(&'a str),
-}
-
-/// A line that is no command.
-#[derive(Clone, Copy)]
-pub enum Misuse<'a> {
-    /// The first word is the name of none.
-    Unknown(&'a str),
-    /// The words after the name are not those that the command takes.
-    Words(Verb),
 }
 
 /// The commands by name.
@@ -53,10 +47,27 @@ pub const VERBS: [Verb; 7] = [
     Verb::Hex,
 ];
 
-impl Verb {
-    // The command as it is typed.
-    pub(crate) fn usage(self) -> &'static str {
-        match self {
+impl<'a> TryFrom<&'a str> for Verb {
+    type Error = Stop<'a>;
+
+    fn try_from(name: &'a str) -> Result<Verb, Stop<'a>> {
+        match name {
+            "help" => Ok(Verb::Help),
+            "check" => Ok(Verb::Check),
+            "show" => Ok(Verb::Show),
+            "labels" => Ok(Verb::Labels),
+            "make" => Ok(Verb::Make),
+            "rewrite" => Ok(Verb::Rewrite),
+            "hex" => Ok(Verb::Hex),
+            _ => Err(Stop::Unknown(name)),
+        }
+    }
+}
+
+// The command as it is typed.
+impl fmt::Display for Verb {
+    fn fmt<W: fmt::Write>(&self, f: &mut fmt::Formatter<W>) -> fmt::Result {
+        f.pad(match self {
             Verb::Help => "help",
             Verb::Check => "check FILE",
             Verb::Show => "show FILE",
@@ -64,9 +75,11 @@ impl Verb {
             Verb::Make => "make TEXT TARGETS OUT",
             Verb::Rewrite => "rewrite FILE OUT",
             Verb::Hex => "hex FILE",
-        }
+        })
     }
+}
 
+impl Verb {
     // What it does.
     pub(crate) fn purpose(self) -> &'static str {
         match self {
@@ -85,81 +98,29 @@ impl Verb {
         }
     }
 
-    fn named(name: &str) -> Option<Verb> {
-        match name {
-            "help" => Some(Verb::Help),
-            "check" => Some(Verb::Check),
-            "show" => Some(Verb::Show),
-            "labels" => Some(Verb::Labels),
-            "make" => Some(Verb::Make),
-            "rewrite" => Some(Verb::Rewrite),
-            "hex" => Some(Verb::Hex),
+    // The command, if the words are those that it takes.
+    fn with<'a>(self, words: &[&'a str]) -> Option<Command<'a>> {
+        match (self, words) {
+            (Verb::Help, []) => Some(Command::Help),
+            (Verb::Check, [file]) => Some(Command::Check(file)),
+            (Verb::Show, [file]) => Some(Command::Show(file)),
+            (Verb::Labels, [file]) => Some(Command::Labels(file)),
+            (Verb::Make, [text, targets, out]) => Some(Command::Make { text, targets, out }),
+            (Verb::Rewrite, [file, out]) => Some(Command::Rewrite { file, out }),
+            (Verb::Hex, [file]) => Some(Command::Hex(file)),
             _ => None,
         }
     }
 }
 
-// The words after a command's name, of which none takes more than three.
-#[derive(Clone, Copy)]
-enum Words<'a> {
-    Zero,
-    One(&'a str),
-    Two(&'a str, &'a str),
-    Three(&'a str, &'a str, &'a str),
-    More,
-}
-
-pub(crate) fn parse(line: &str) -> Result<Command<'_>, Misuse<'_>> {
-    let mut words = line.split_whitespace();
-    let Some(name) = words.next() else {
-        return Ok(Command::Nothing);
-    };
-    if name.starts_with('#') {
-        return Ok(Command::Nothing);
-    }
-    let Some(verb) = Verb::named(name) else {
-        return Err(Misuse::Unknown(name));
-    };
-    let rest = gather(words.next(), words.next(), words.next(), words.next());
-    match joined(verb, rest) {
-        Some(command) => Ok(command),
-        None => Err(Misuse::Words(verb)),
-    }
-}
-
-fn gather<'a>(
-    first: Option<&'a str>,
-    second: Option<&'a str>,
-    third: Option<&'a str>,
-    more: Option<&'a str>,
-) -> Words<'a> {
-    let Some(a) = first else {
-        return Words::Zero;
-    };
-    let Some(b) = second else {
-        return Words::One(a);
-    };
-    let Some(c) = third else {
-        return Words::Two(a, b);
-    };
-    if more.is_some() {
-        return Words::More;
-    }
-    Words::Three(a, b, c)
-}
-
-// The command, if the words are those that it takes.
-fn joined<'a>(verb: Verb, words: Words<'a>) -> Option<Command<'a>> {
-    match (verb, words) {
-        (Verb::Help, Words::Zero) => Some(Command::Help),
-        (Verb::Check, Words::One(file)) => Some(Command::Check(file)),
-        (Verb::Show, Words::One(file)) => Some(Command::Show(file)),
-        (Verb::Labels, Words::One(file)) => Some(Command::Labels(file)),
-        (Verb::Make, Words::Three(text, targets, out)) => {
-            Some(Command::Make { text, targets, out })
+pub(crate) fn parse(heap: Global, line: &str) -> Result<Command<'_>, Stop<'_>> {
+    let words: Vec<&str> = line.split_whitespace().collect(heap)?;
+    match words.as_slice() {
+        [] => Ok(Command::Nothing),
+        [name, ..] if name.starts_with('#') => Ok(Command::Nothing),
+        [name, words @ ..] => {
+            let verb = Verb::try_from(*name)?;
+            verb.with(words).ok_or(Stop::Usage(verb))
         }
-        (Verb::Rewrite, Words::Two(file, out)) => Some(Command::Rewrite { file, out }),
-        (Verb::Hex, Words::One(file)) => Some(Command::Hex(file)),
-        _ => None,
     }
 }

@@ -1,24 +1,13 @@
 // Files, whole.
-use std::{fs, io};
+use crate::stop::Stop;
+use std::fs;
 
-// The bytes of a file, or none after a line that says why.
-pub(crate) fn read(rt: &HostRuntime, name: &str) -> io::Result<Option<Vec<u8>>> {
-    match fs::read(rt, name) {
-        Ok(bytes) => Ok(Some(bytes)),
-        Err(e) => {
-            println!(rt; "The file {name} cannot be read: {e}.")?;
-            Ok(None)
-        }
-    }
+// The bytes of a file.
+pub(crate) fn read<'a>(rt: &HostRuntime, name: &'a str) -> Result<Vec<u8>, Stop<'a>> {
+    fs::read(rt, name).map_err(|error| Stop::Unreadable { name, error })
 }
 
-// Whether the file could be written; if not, a line says why.
-pub(crate) fn save(rt: &HostRuntime, name: &str, bytes: &[u8]) -> io::Result<bool> {
-    match fs::write(rt, name, bytes) {
-        Ok(()) => Ok(true),
-        Err(e) => {
-            println!(rt; "The file {name} cannot be written: {e}.")?;
-            Ok(false)
-        }
-    }
+// Writes a file.
+pub(crate) fn save<'a>(rt: &HostRuntime, name: &'a str, bytes: &[u8]) -> Result<(), Stop<'a>> {
+    fs::write(rt, name, bytes).map_err(|error| Stop::Unwritable { name, error })
 }

@@ -1,17 +1,14 @@
 // A file's bytes in hexadecimal, sixteen to a row, each row led by the offset of its first byte.
 use crate::files;
+use crate::stop::Stop;
 use std::io;
 
-pub(crate) fn print_file(rt: &HostRuntime, name: &str) -> io::Result<()> {
-    let Some(bytes) = files::read(rt, name)? else {
-        return Ok(());
-    };
+pub(crate) fn print_file<'a>(rt: &HostRuntime, name: &'a str) -> Result<(), Stop<'a>> {
+    let bytes = files::read(rt, name)?;
     let size = bytes.len();
     println!(rt; "The bytes of {name}, {size} in all:")?;
-    let mut offset = 0usize;
-    for row in bytes.chunks(16) {
-        print_row(rt, offset, row)?;
-        offset = offset.saturating_add(16);
+    for (index, row) in bytes.chunks(16).enumerate() {
+        print_row(rt, 16 * index, row)?;
     }
     Ok(())
 }

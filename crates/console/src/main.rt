@@ -11,10 +11,12 @@ mod label;
 mod make;
 mod roster;
 mod show;
+mod stop;
 mod words;
 
-use command::{Command, Misuse};
+use command::Command;
 use std::io;
+use stop::Stop;
 
 fn main(rt: HostRuntime) -> io::Result<()> {
     for line in rt.lines(rt.alloc()) {
@@ -32,22 +34,17 @@ fn main(rt: HostRuntime) -> io::Result<()> {
 
 // One line of the script.
 fn answer(rt: &HostRuntime, line: &str) -> io::Result<()> {
-    match command::parse(line) {
-        Ok(command) => run(rt, command),
-        Err(Misuse::Unknown(word)) => {
-            println!(rt; "There is no command {word}. The command help lists all commands.")
-        }
-        Err(Misuse::Words(verb)) => {
-            let usage = verb.usage();
-            println!(rt; "Nothing was done. The command is: {usage}")
-        }
+    match obey(rt, line) {
+        Ok(()) => Ok(()),
+        Err(Stop::Run(error)) => Err(error),
+        Err(stop) => println!(rt; "{stop}"),
     }
 }
 
-fn run(rt: &HostRuntime, command: Command<'_>) -> io::Result<()> {
-    match command {
+fn obey<'a>(rt: &HostRuntime, line: &'a str) -> Result<(), Stop<'a>> {
+    match command::parse(rt.alloc(), line)? {
         Command::Nothing => Ok(()),
-        Command::Help => help(rt),
+        Command::Help => Ok(help(rt)?),
         Command::Check(file) => check(rt, file),
         Command::Show(file) => show::print_file(rt, file),
         Command::Labels(file) => label::print_file(rt, file),
@@ -59,14 +56,13 @@ fn run(rt: &HostRuntime, command: Command<'_>) -> io::Result<()> {
 
 fn help(rt: &HostRuntime) -> io::Result<()> {
     for verb in command::VERBS {
-        let usage = verb.usage();
         let purpose = verb.purpose();
-        println!(rt; "  {usage:<22} {purpose}")?;
+        println!(rt; "  {verb:<22} {purpose}")?;
     }
     Ok(())
 }
 
-fn check(rt: &HostRuntime, name: &str) -> io::Result<()> {
+fn check<'a>(rt: &HostRuntime, name: &'a str) -> Result<(), Stop<'a>> {
     let _ = show::accept(rt, name)?;
     Ok(())
 }

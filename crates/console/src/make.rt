@@ -1,62 +1,46 @@
 // Plan files made of a text and targets, and plan files written again.
-use crate::{files, roster, show, words};
+use crate::stop::Stop;
+use crate::{files, roster, show};
 use planfile::MOST_BYTES;
-use std::io;
 
-pub(crate) fn make(rt: &HostRuntime, text: &str, targets: &str, out: &str) -> io::Result<()> {
-    let Some(text) = files::read(rt, text)? else {
-        return Ok(());
-    };
-    let Some(list) = roster::read(rt, targets)? else {
-        return Ok(());
-    };
+// Both commands lend room for the longest file and cut it to size. One function of a closure that is lent the room was
+// tried, and its calls were not proved.
+
+pub(crate) fn make<'a>(
+    rt: &HostRuntime,
+    text: &'a str,
+    targets: &'a str,
+    out: &'a str,
+) -> Result<(), Stop<'a>> {
+    let text = files::read(rt, text)?;
+    let list = roster::read(rt, targets)?;
     let mut file = vec![in rt.alloc(); 0u8; MOST_BYTES]?;
-    match planfile::write(&text, &list, &mut file) {
-        Ok(size) => {
-            file.truncate(size as usize);
-            keep(rt, out, &file)
-        }
-        Err(fault) => {
-            words::refuse(rt, out, fault)?;
-            roster::tell_repeat(rt, &list)
-        }
-    }
+    let size = planfile::write(&text, &list, &mut file).map_err(|fault| Stop::File {
+        name: out,
+        fault,
+        twice: roster::repeated(&list),
+    })?;
+    file.truncate(size as usize);
+    files::save(rt, out, &file)?;
+    println!(rt; "{out} was made.")?;
+    show::tell_summary(rt, out, &file)
 }
 
-// Saves a new file, and says what it holds.
-fn keep(rt: &HostRuntime, name: &str, file: &[u8]) -> io::Result<()> {
-    if !files::save(rt, name, file)? {
-        return Ok(());
-    }
-    println!(rt; "{name} was made.")?;
-    match planfile::check(file) {
-        Ok(sum) => show::summarize(rt, name, sum),
-        Err(fault) => words::refuse(rt, name, fault),
-    }
-}
-
-pub(crate) fn rewrite(rt: &HostRuntime, name: &str, out: &str) -> io::Result<()> {
-    let Some(file) = files::read(rt, name)? else {
-        return Ok(());
-    };
+pub(crate) fn rewrite<'a>(rt: &HostRuntime, name: &'a str, out: &'a str) -> Result<(), Stop<'a>> {
+    let file = files::read(rt, name)?;
     let mut again = vec![in rt.alloc(); 0u8; MOST_BYTES]?;
-    match planfile::rewrite(&file, &mut again) {
-        Ok(size) => {
-            again.truncate(size as usize);
-            compare(rt, name, &file, out, &again)
-        }
-        Err(fault) => words::refuse(rt, name, fault),
-    }
-}
-
-fn compare(rt: &HostRuntime, name: &str, file: &[u8], out: &str, again: &[u8]) -> io::Result<()> {
-    if !files::save(rt, out, again)? {
-        return Ok(());
-    }
+    let size = planfile::rewrite(&file, &mut again).map_err(|fault| Stop::File {
+        name,
+        fault,
+        twice: None,
+    })?;
+    again.truncate(size as usize);
+    files::save(rt, out, &again)?;
     println!(rt; "{name} was read and written again to {out}, with the same lines and targets.")?;
     if file == again {
-        println!(rt; "The bytes agree.")
+        println!(rt; "The bytes agree.")?;
     } else {
-        println!(rt; "The bytes differ: in {out} the lines come before the targets.")
+        println!(rt; "The bytes differ: in {out} the lines come before the targets.")?;
     }
+    Ok(())
 }

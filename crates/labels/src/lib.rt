@@ -9,6 +9,8 @@ ghost use Rattle.labels.specs.Faults.{number_of};
 ghost use Rattle.labels.specs.Labels.{label, placed, Labelled, Written};
 
 use kinds::Target;
+use std::error::Error;
+use std::fmt;
 
 /// A target with its position in the list, counted from 0. Labels compare by range, by position where ranges are equal,
 /// and last by number.
@@ -36,6 +38,18 @@ impl LabelFault {
         }
     }
 }
+
+impl fmt::Display for LabelFault {
+    fn fmt<W: fmt::Write>(&self, f: &mut fmt::Formatter<W>) -> fmt::Result {
+        let number = self.number();
+        let cause = match self {
+            LabelFault::OutputTooShort => "the output is too short",
+        };
+        write!(f, "number {number}, layer agenda, place 0: {cause}")
+    }
+}
+
+impl Error for LabelFault {}
 
 /// Writes the targets in label order to the start of the output, the rest of which stays, and gives their number.
 pub fn labels(targets: &[Target], out: &mut [Label]) -> Result<usize, LabelFault>
@@ -65,6 +79,7 @@ fn fill(targets: &[Target], places: &mut [Label])
     requires { length places.old ≡ length targets.now }
     ensures { places.new ≡ placed 0 targets.now }
 {
+    // By index: what an adapter of `iter_mut` wrote is known to no contract, so a `zip` of it was not proved.
     for (i, target) in targets.iter().enumerate() {
         places[i] = at_position(i, *target);
     }

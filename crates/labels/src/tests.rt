@@ -2,6 +2,7 @@
 use super::{Label, LabelFault, labels};
 use kinds::Target;
 use std::process::Abort;
+use std::test::Fail;
 
 const BLANK: Label = Label {
     range: 0,
@@ -66,4 +67,14 @@ fn no_targets(rt: HostRuntime) {
     assert_eq!(rt; labels(&[], &mut out), Ok(0));
     assert_eq!(rt; out, [BLANK]);
     assert_eq!(rt; labels(&[], &mut []), Ok(0));
+}
+
+#[test]
+fn a_fault_in_words(rt: HostRuntime) -> Result<(), Fail> {
+    let words = format!(in rt.alloc(); "{}", LabelFault::OutputTooShort)?;
+    assert_eq!(rt;
+        words.as_str(),
+        "number 18, layer agenda, place 0: the output is too short"
+    );
+    Ok(())
 }

@@ -4,7 +4,9 @@ use Rattle.planfile.specs.declared.faults.Cause.TheVariants.{TrailingBytes}
 use Rattle.planfile.specs.declared.faults.Cause.{Cause}
 use Rattle.kinds.specs.declared.targets.Target.{Target}
 use Rattle.planfile.specs.Format.{Content, nothing, with_line, with_target, fields_in, numbered, Meaning, piece, target, end, Front, ◌then◌, front, fault, closed, judged, walk, verdict}
-use Rattle.planfile.specs.Reading.{gathered, ahead_by, ahead, content_in}
+use Rattle.planfile.specs.declared.fields.Item.{Item}
+use Rattle.planfile.specs.declared.fields.Item.TheVariants.{Piece, Target as Aim}
+use Rattle.planfile.specs.Reading.{gathered, ahead_by, ahead, content_in, item_said}
 use Rattle.planfile.proofs.Outcomes.{never, same_ok, cond_ok, cond_ok_else}
 use Rattle.planfile.proofs.Fronts.{fronted, fronted_length}
 
@@ -43,15 +45,19 @@ first bytes rest m e =
     let some : length bytes ≡ suc (length bytes - 1) = omega (arith, shorter bytes rest m e) in
     ap (λ n. ahead_by n bytes) some ∙ ap (gathered (ahead_by (length bytes - 1))) e
 
-pub ahead_piece : (bytes line rest : List ℕ) → front bytes ≡ Ok (piece line then rest) → ahead bytes ≡ piece line ∷ ahead rest
+ahead_piece : (bytes line rest : List ℕ) → front bytes ≡ Ok (piece line then rest) → ahead bytes ≡ piece line ∷ ahead rest
 ahead_piece bytes line rest e =
     let s = shorter bytes rest (piece line) e in
     first bytes rest (piece line) e ∙ ap (λ ms. piece line ∷ ms) (ahead_same (length bytes - 1) (length rest) rest (omega arith) (omega arith))
 
-pub ahead_target : (bytes : List ℕ) (t : Target) (rest : List ℕ) → front bytes ≡ Ok (target t then rest) → ahead bytes ≡ target t ∷ ahead rest
+ahead_target : (bytes : List ℕ) (t : Target) (rest : List ℕ) → front bytes ≡ Ok (target t then rest) → ahead bytes ≡ target t ∷ ahead rest
 ahead_target bytes t rest e =
     let s = shorter bytes rest (target t) e in
     first bytes rest (target t) e ∙ ap (λ ms. target t ∷ ms) (ahead_same (length bytes - 1) (length rest) rest (omega arith) (omega arith))
+
+pub ahead_item : (bytes : List ℕ) (item : Item) (rest : List ℕ) → front bytes ≡ Ok (item_said item then rest) → ahead bytes ≡ item_said item ∷ ahead rest
+ahead_item bytes (Piece line) rest e = ahead_piece bytes line.now rest e
+ahead_item bytes (Aim t) rest e = ahead_target bytes t rest e
 
 -- the verdict's content is what came before, and then what is ahead
 closed_same : (size : ℕ) (c : Content) (left : List ℕ) (count : ℕ) (rest : List ℕ) (d : Content) → closed size c left count rest ≡ Ok d → c ≡ d

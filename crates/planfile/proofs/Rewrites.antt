@@ -1,15 +1,16 @@
 -- Fields appended one after another. Assumes nothing.
-use Rattle.std.proofs.Common.{◌≡◌, ℕ, ◌+◌, ◌<◌, ◌≤◌, true, false, ltb, leb, List, [], ◌∷◌, ◌++◌, length, take, drop, Ok, Err, Result, sym, refl, ap, ◌∙◌, ap₂, append_assoc, arith, length-append, take-append-drop, length-take}
+use Rattle.std.proofs.Common.{◌≡◌, ℕ, ◌+◌, ◌<◌, ◌≤◌, Bool, true, false, filter, ltb, leb, List, [], ◌∷◌, ◌++◌, length, take, drop, Option, Some, None, Ok, Err, Result, sym, refl, ap, ◌∙◌, ap₂, append_assoc, arith, length-append, take-append-drop, length-take}
 use Rattle.std.specs.List.{flat_map}
+use Rattle.std.specs.Iterator.{AlwaysYields}
 use Rattle.std.proofs.lemmas.List.{take_at, drop_at, drop-drop}
 use Rattle.std.proofs.lemmas.Bool.{and_from, and_left, and_right, and_parts, le-leb, lt-leb, leb-true, ltb-false, cond-true, cond-false}
 use Rattle.planfile.specs.declared.faults.Cause.TheVariants.{NoRoom}
 use Rattle.planfile.specs.declared.faults.FileFault.{FileFault}
 use Rattle.planfile.specs.declared.read.Summary.{Summary}
-use Rattle.planfile.specs.Format.{Content, fields_in, verdict}
-use Rattle.planfile.specs.Files.{piece_field, target_field, file_of, all_lines, all_targets, distinct}
-use Rattle.planfile.specs.Reading.{counts, counted}
-use Rattle.planfile.specs.Writing.{fits, written, left_after, answer, rewritten, rewrite_answer, SaysSame}
+use Rattle.planfile.specs.Format.{Content, Meaning, piece, target, end, fields_in, verdict}
+use Rattle.planfile.specs.Files.{piece_field, target_field, field_saying, file_of, all_lines, all_targets, distinct}
+use Rattle.planfile.specs.Reading.{counts, counted, lines_in, targets_in}
+use Rattle.planfile.specs.Writing.{fits, written, left_after, answer, rewritten, rewrite_answer, Puts, Appends, SaysSame}
 use Rattle.planfile.proofs.Outcomes.{never, same_ok, cond_ok, cond_ok_else}
 use Rattle.planfile.proofs.Returns.{long_joined, reads_back}
 use Rattle.planfile.proofs.Rules.{keeps_rules}
@@ -32,6 +33,16 @@ written_more out at f g h =
     ∙ ap (λ n. drop n out) (omega (arith, length-append f g)) in
     ap₂ (λ x y. x ++ (g ++ y)) front back ∙ simp append_assoc
 
+-- what an iterator gives is the first of what it was to give
+module _ {S A B : Type 0} (steps : S → Option A → S → Type 0) (v : A → B) (s t : S) where
+  pub taken : (x : A) (all : List B) → AlwaysYields steps v s all → steps s (Some x) t → (more : List B) × (all ≡ v x ∷ more) × AlwaysYields steps v t more
+  taken x [] always gave = absurd (always x t gave)
+  taken x (y ∷ ys) always gave = let next = always.1 x t gave in (ys, ap (λ z. z ∷ ys) (sym next.0), next.1)
+
+  pub none_left : (all : List B) → AlwaysYields steps v s all → steps s None t → all ≡ []
+  none_left [] always gave = refl
+  none_left (y ∷ ys) always gave = absurd (always.0 t gave)
+
 -- what is to be put of a list, while some of it is put already
 pub record Putting {X : Type 0} (f : X → List ℕ) (out_first : List ℕ) (at_first : ℕ) (xs_first : List X) (out : List ℕ) (at : ℕ) (xs : List X) : Type 0 where
   pub room : at + length (flat_map f xs) ≤ length out
@@ -40,8 +51,10 @@ pub record Putting {X : Type 0} (f : X → List ℕ) (out_first : List ℕ) (at_
   pub same : written out at (flat_map f xs) ≡ written out_first at_first (flat_map f xs_first)
 
 module _ {X : Type 0} (f : X → List ℕ) where
-  pub put_start : (out : List ℕ) (at : ℕ) (xs : List X) → at + length (flat_map f xs) ≤ length out → at + length (flat_map f xs) ≤ 65535 → Putting f out at xs out at xs
-  put_start out at xs p q = record { room = p; few = q; place = refl; same = refl }
+  pub put_fitting : (out : List ℕ) (at : ℕ) (xs : List X) → fits out at (flat_map f xs) ≡ true → Putting f out at xs out at xs
+  put_fitting out at xs room =
+      let both = and_parts (leb (at + length (flat_map f xs)) (length out)) (leb (at + length (flat_map f xs)) 65535) room in
+      record { room = leb-true _ _ both.0; few = leb-true _ _ both.1; place = refl; same = refl }
 
   pub put_all : (out₀ : List ℕ) (at₀ : ℕ) (xs₀ : List X) (out : List ℕ) (at : ℕ) (all : List X) → all ≡ [] → Putting f out₀ at₀ xs₀ out at all → (at ≡ at₀ + length (flat_map f xs₀)) × (out ≡ written out₀ at₀ (flat_map f xs₀))
   put_all out₀ at₀ xs₀ out at all none u =
@@ -124,32 +137,74 @@ no_room file out sum a less =
     let u = unfit_short out (file_of a.content.lines a.content.targets) (omega (arith, content_size a.content, a.size)) in
     (rw a.is u.answer, rw a.is u.output)
 
--- after the lines of an accepted file there is room for its targets
-pub room_for_targets : (file out : List ℕ) (sum : Summary) (a : Accepted file sum) (items : Content) (at : ℕ) (out₁ : List ℕ) → items ≡ a.content → length file ≤ length out → length out₁ ≡ length out → ◌≡◌ {A = Result ℕ FileFault} (Ok at) (Ok (0 + length (flat_map piece_field items.lines))) → (at + length (flat_map target_field items.targets) ≤ length out₁) × (at + length (flat_map target_field items.targets) ≤ 65535)
-room_for_targets file out sum a items at out₁ is room long is_at =
-    let lines = ap (λ d. length (flat_map piece_field d.lines)) is in
-    let targets = ap (λ d. length (flat_map target_field d.targets)) is in
-    let place = same_ok is_at in
-    (omega (arith, a.size), omega (arith, a.size, a.short))
+-- the items that are lines, and those that are targets
+abbrev pub is_piece : Meaning → Bool
+is_piece (piece line) = true
+is_piece (target t) = false
+is_piece (end count) = false
+
+abbrev pub is_aim : Meaning → Bool
+is_aim (piece line) = false
+is_aim (target t) = true
+is_aim (end count) = false
+
+pub lines_put : (items : List Meaning) → flat_map field_saying (filter is_piece items) ≡ flat_map piece_field (lines_in items)
+lines_put [] = refl
+lines_put (piece line ∷ more) = ap (λ l. piece_field line ++ l) (lines_put more)
+lines_put (target t ∷ more) = lines_put more
+lines_put (end count ∷ more) = lines_put more
+
+pub targets_put : (items : List Meaning) → flat_map field_saying (filter is_aim items) ≡ flat_map target_field (targets_in items)
+targets_put [] = refl
+targets_put (piece line ∷ more) = targets_put more
+targets_put (target t ∷ more) = ap (λ l. target_field t ++ l) (targets_put more)
+targets_put (end count ∷ more) = targets_put more
 
 -- three runs of bytes, one after another
-module _ (out p t e : List ℕ) (room : length p + length t + length e ≤ length out) (few : length p + length t + length e ≤ 65535) where
-  pub three_put : (out₁ out₂ out₃ : List ℕ) (at₁ at₂ : ℕ) (r : Result ℕ FileFault) → out₁ ≡ written out 0 p → ◌≡◌ {A = Result ℕ FileFault} (Ok at₁) (Ok (0 + length p)) → out₂ ≡ written out₁ at₁ t → ◌≡◌ {A = Result ℕ FileFault} (Ok at₂) (Ok (at₁ + length t)) → length out₂ ≡ length out → r ≡ answer out₂ at₂ e → out₃ ≡ left_after out₂ at₂ e → (r ≡ answer out 0 (p ++ (t ++ e))) × (out₃ ≡ left_after out 0 (p ++ (t ++ e)))
-  three_put out₁ out₂ out₃ at₁ at₂ r is-out₁ ok-at₁ is-out₂ ok-at₂ long is-r is-out₃ =
-      let is_at₁ : at₁ ≡ 0 + length p = same_ok ok-at₁ in
-      let is_at₂ : at₂ ≡ at₁ + length t = same_ok ok-at₂ in
-      let all = p ++ (t ++ e) in
-      let sizes : length all ≡ length p + (length t + length e) = simp length-append in
-      let ends : at₂ + length e ≡ 0 + length all = omega arith in
-      let whole = fitting out 0 all (omega arith) (omega arith) in
-      let last = fitting out₂ at₂ e (omega arith) (omega arith) in
-      let pt : out₂ ≡ written out 0 (p ++ t) = is-out₂ ∙ ap₂ (λ o n. written o n t) is-out₁ is_at₁ ∙ written_more out 0 p t (omega arith) in
-      let at_pt : at₂ ≡ 0 + length (p ++ t) = simp length-append (omega arith) in
-      let room_pt : 0 + length (p ++ t) + length e ≤ length out = simp length-append (omega arith) in
-      let pte : written out₂ at₂ e ≡ written out 0 all = ap₂ (λ o n. written o n e) pt at_pt ∙ written_more out 0 (p ++ t) e room_pt ∙ ap (written out 0) (append_assoc p t e) in (
-        is-r ∙ cond-true (fits out₂ at₂ e) _ _ last ∙ ap Ok ends ∙ sym (cond-true (fits out 0 all) _ _ whole),
-        is-out₃ ∙ cond-true (fits out₂ at₂ e) _ _ last ∙ pte ∙ sym (cond-true (fits out 0 all) _ _ whole),
-      )
+module _ (out p t e : List ℕ) (room : fits out 0 (p ++ (t ++ e)) ≡ true) (r₁ : Result ℕ FileFault) (out₁ : List ℕ) (first : Appends out 0 p r₁ out₁) where
+  sizes : length (p ++ (t ++ e)) ≡ length p + (length t + length e)
+  sizes = simp length-append
+
+  long : length p + (length t + length e) ≤ length out
+  long = omega (arith, sizes, leb-true (0 + length (p ++ (t ++ e))) (length out) (and_parts (leb (0 + length (p ++ (t ++ e))) (length out)) (leb (0 + length (p ++ (t ++ e))) 65535) room).0)
+
+  few : length p + (length t + length e) ≤ 65535
+  few = omega (arith, sizes, leb-true (0 + length (p ++ (t ++ e))) 65535 (and_parts (leb (0 + length (p ++ (t ++ e))) (length out)) (leb (0 + length (p ++ (t ++ e))) 65535) room).1)
+
+  one : (r₁ ≡ Ok (0 + length p)) × (out₁ ≡ written out 0 p)
+  one = first (fitting out 0 p (omega (arith, long)) (omega (arith, few)))
+
+  pub first_put : (f : FileFault) → r₁ ≡ Err f → ⊥
+  first_put f is = never f _ (sym is ∙ one.0)
+
+  module _ (at₁ : ℕ) (ok : r₁ ≡ Ok at₁) (same : length out₁ ≡ length out) (r₂ : Result ℕ FileFault) (out₂ : List ℕ) (second : Appends out₁ at₁ t r₂ out₂) where
+    place : at₁ ≡ 0 + length p
+    place = same_ok (sym ok ∙ one.0)
+
+    two : (r₂ ≡ Ok (at₁ + length t)) × (out₂ ≡ written out₁ at₁ t)
+    two = second (fitting out₁ at₁ t (omega (arith, place, long)) (omega (arith, place, few)))
+
+    pub second_put : (f : FileFault) → r₂ ≡ Err f → ⊥
+    second_put f is = never f _ (sym is ∙ two.0)
+
+    pub third_put : (at₂ : ℕ) → r₂ ≡ Ok at₂ → length out₂ ≡ length out → (r : Result ℕ FileFault) (out₃ : List ℕ) → Puts out₂ at₂ e r out₃ → (r ≡ Ok (0 + length (p ++ (t ++ e)))) × (out₃ ≡ written out 0 (p ++ (t ++ e)))
+    third_put at₂ ok-two same-two r out₃ third =
+        let is_at₁ : at₁ ≡ 0 + length p = place in
+        let is_at₂ : at₂ ≡ at₁ + length t = same_ok (sym ok-two ∙ two.0) in
+        let ends : at₂ + length e ≡ 0 + length (p ++ (t ++ e)) = omega (arith, sizes) in
+        let last = fitting out₂ at₂ e (omega (arith, long)) (omega (arith, few)) in
+        let pt : out₂ ≡ written out 0 (p ++ t) = two.1 ∙ ap₂ (λ o n. written o n t) one.1 is_at₁ ∙ written_more out 0 p t (omega (arith, long)) in
+        let at_pt : at₂ ≡ 0 + length (p ++ t) = simp length-append (omega arith) in
+        let room_pt : 0 + length (p ++ t) + length e ≤ length out = simp length-append (omega (arith, long)) in
+        let pte : written out₂ at₂ e ≡ written out 0 (p ++ (t ++ e)) = ap₂ (λ o n. written o n e) pt at_pt ∙ written_more out 0 (p ++ t) e room_pt ∙ ap (written out 0) (append_assoc p t e) in
+        (third.answered ∙ cond-true (fits out₂ at₂ e) _ _ last ∙ ap Ok ends, third.output ∙ cond-true (fits out₂ at₂ e) _ _ last ∙ pte)
+
+-- bytes that fit and are written are put
+pub put_fits_whole : (out : List ℕ) (f : List ℕ) (r : Result ℕ FileFault) (after : List ℕ) → 0 + length f ≤ length out → 0 + length f ≤ 65535 → Appends out 0 f r after → Puts out 0 f r after
+put_fits_whole out f r after p q done =
+    let whole = fitting out 0 f p q in
+    let is = done whole in
+    record { answered = is.0 ∙ sym (cond-true (fits out 0 f) _ _ whole); output = is.1 ∙ sym (cond-true (fits out 0 f) _ _ whole) }
 
 -- a content within the rules, written where it fits, is read again
 pub reads_as : (c : Content) (out : List ℕ) → all_lines c.lines ≡ true → all_targets c.targets ≡ true → distinct c.targets ≡ true → (r : Result ℕ FileFault) (after : List ℕ) → r ≡ answer out 0 (file_of c.lines c.targets) → after ≡ left_after out 0 (file_of c.lines c.targets) → SaysSame (Ok c) r after

@@ -1,6 +1,8 @@
 -- An accepted file keeps the rules, and has as many bytes as its content asks for. Assumes nothing.
-use Rattle.std.proofs.Common.{◌≡◌, ℕ, zero, suc, ◌+◌, true, false, not, eqb, ltb, List, [], ◌∷◌, ◌++◌, length, Ok, Err, Result, sym, refl, ◌∙◌, arith, length-append}
-use Rattle.std.specs.List.{flat_map}
+use Rattle.std.proofs.Common.{◌≡◌, ℕ, zero, suc, ◌+◌, Bool, true, false, not, eqb, ltb, List, [], ◌∷◌, ◌++◌, length, Ok, Err, Result, sym, refl, ◌∙◌, arith, length-append}
+use Rattle.std.specs.List.{flat_map, list_all}
+use Rattle.std.proofs.lemmas.Grind.{flat_map-append}
+use Rattle.std.proofs.lemmas.List.Folds.{list_all-append}
 use Rattle.std.proofs.lemmas.Bool.{and_parts, and_from, or_parts, or_from, not-true, not_from_false, eqb-false, ne_eqb}
 use Rattle.kinds.specs.Targets.{is_target}
 use Rattle.planfile.specs.declared.faults.Cause.TheVariants.{TrailingBytes}
@@ -12,13 +14,8 @@ use Rattle.planfile.proofs.Fronts.{fronted, fronted_piece, fronted_target, front
 use Rattle.planfile.proofs.Walks.{numbered_more}
 use Rattle.planfile.proofs.Outcomes.{never, same_ok, cond_ok, cond_ok_else}
 
-lines_more : (ls : List (List ℕ)) (l : List ℕ) → all_lines ls ≡ true → is_line l ≡ true → all_lines (ls ++ (l ∷ [])) ≡ true
-lines_more [] l p q = and_from (is_line l) true q refl
-lines_more (x ∷ ls) l p q = let h = and_parts (is_line x) (all_lines ls) p in and_from (is_line x) _ h.0 (lines_more ls l h.1 q)
-
-targets_more : (ts : List Target) (t : Target) → all_targets ts ≡ true → is_target t ≡ true → all_targets (ts ++ (t ∷ [])) ≡ true
-targets_more [] t p q = and_from (is_target t) true q refl
-targets_more (x ∷ ts) t p q = let h = and_parts (is_target x) (all_targets ts) p in and_from (is_target x) _ h.0 (targets_more ts t h.1 q)
+all_more : {X : Type 0} (p : X → Bool) (xs : List X) (x : X) → list_all p xs ≡ true → p x ≡ true → list_all p (xs ++ (x ∷ [])) ≡ true
+all_more p xs x all one = list_all-append p xs (x ∷ []) ∙ and_from (list_all p xs) _ all (and_from (p x) true one refl)
 
 pub distinct_more : (ts : List Target) (t : Target) → distinct ts ≡ true → numbered t.number ts ≡ false → distinct (ts ++ (t ∷ [])) ≡ true
 distinct_more [] t p q = refl
@@ -30,8 +27,7 @@ distinct_more (x ∷ ts) t p q =
     and_from (not (numbered x.number (ts ++ (t ∷ [])))) _ (not_from_false (numbered x.number (ts ++ (t ∷ []))) unlike) (distinct_more ts t h.1 o.1)
 
 joined_longer : {X : Type 0} (f : X → List ℕ) (xs : List X) (x : X) → length (flat_map f (xs ++ (x ∷ []))) ≡ length (flat_map f xs) + length (f x)
-joined_longer f [] x = simp length-append (omega arith)
-joined_longer f (y ∷ xs) x = simp length-append (omega (arith, joined_longer f xs x))
+joined_longer f xs x = simp (flat_map-append, length-append) (omega arith)
 
 -- the bytes of a content, without the end field
 abbrev bulk : Content → ℕ
@@ -43,10 +39,10 @@ record Ruled (c : Content) : Type 0 where
   apart : distinct c.targets ≡ true
 
 with_line_ruled : (c : Content) (l : List ℕ) → Ruled c → is_line l ≡ true → Ruled (with_line c l)
-with_line_ruled c l r h = record { lines = lines_more c.lines l r.lines h; targets = r.targets; apart = r.apart }
+with_line_ruled c l r h = record { lines = all_more is_line c.lines l r.lines h; targets = r.targets; apart = r.apart }
 
 with_target_ruled : (c : Content) (t : Target) → Ruled c → is_target t ≡ true → numbered t.number c.targets ≡ false → Ruled (with_target c t)
-with_target_ruled c t r h n = record { lines = r.lines; targets = targets_more c.targets t r.targets h; apart = distinct_more c.targets t r.apart n }
+with_target_ruled c t r h n = record { lines = r.lines; targets = all_more is_target c.targets t r.targets h; apart = distinct_more c.targets t r.apart n }
 
 -- the content after what is left, and how long it is
 record Goes (c : Content) (left : List ℕ) (d : Content) : Type 0 where

@@ -1,6 +1,7 @@
 -- The number of each refusal. Assumes nothing.
 use Rattle.std.specs.Prelude.{ℕ}
 use Rattle.planfile.specs.declared.faults.Cause.{Cause}
+use Rattle.planfile.specs.declared.faults.FileFault.{FileFault}
 use Rattle.planfile.specs.declared.faults.Cause.TheVariants.{TooLong, ShortHeader, ShortValue, UnknownTag, EmptyPiece, InnerNewline, WrongLength, TargetOutside, RepeatedNumber, MissingEnd, WrongCount, TrailingBytes, NumberTwice, NoRoom}
 
 abbrev pub number_of : Cause → ℕ
@@ -18,3 +19,7 @@ number_of WrongCount = 7
 number_of TrailingBytes = 7
 number_of NumberTwice = 16
 number_of NoRoom = 18
+
+-- The refusal for a cause at a place.
+abbrev pub fault_at : Cause → ℕ → FileFault
+fault_at cause place = record { cause = cause; place = place }

@@ -1,9 +1,9 @@
 -- The file of some lines and targets, byte by byte, and the laws of the format. Assumes nothing.
 use Rattle.std.specs.Prelude.{◌≡◌, ℕ, ◌+◌, ◌/◌, ◌%◌, ◌≤◌, Bool, true, not, ◌&&◌, List, [], ◌∷◌, ◌++◌, length, Ok}
-use Rattle.std.specs.List.{flat_map}
+use Rattle.std.specs.List.{flat_map, list_all}
 use Rattle.kinds.specs.Targets.{is_target}
 use Rattle.kinds.specs.declared.targets.Target.{Target}
-use Rattle.planfile.specs.Format.{Content, is_line, numbered, walk, verdict}
+use Rattle.planfile.specs.Format.{Content, Meaning, piece, target, end, is_line, numbered, walk, verdict}
 
 -- A number in two bytes, or in four: high byte first.
 abbrev pub two_bytes : ℕ → List ℕ
@@ -25,18 +25,22 @@ target_field t = field_of 0x03 (two_bytes t.number ++ four_bytes t.range)
 abbrev pub end_field : ℕ → List ℕ
 end_field count = field_of 0x7F (two_bytes count)
 
+-- The field that says so.
+abbrev pub field_saying : Meaning → List ℕ
+field_saying (piece line) = piece_field line
+field_saying (target t) = target_field t
+field_saying (end count) = end_field count
+
 -- The lines, then the targets, then the end.
 abbrev pub file_of : List (List ℕ) → List Target → List ℕ
 file_of lines targets = flat_map piece_field lines ++ (flat_map target_field targets ++ end_field (length lines + length targets))
 
 -- The rules for lines and targets, of each in a list.
 abbrev pub all_lines : List (List ℕ) → Bool
-all_lines [] = true
-all_lines (line ∷ more) = is_line line && all_lines more
+all_lines lines = list_all is_line lines
 
 abbrev pub all_targets : List Target → Bool
-all_targets [] = true
-all_targets (t ∷ more) = is_target t && all_targets more
+all_targets targets = list_all is_target targets
 
 -- No number occurs twice.
 abbrev pub distinct : List Target → Bool

@@ -1,5 +1,6 @@
 -- The format of a plan file: what each list of bytes says, or why it is refused. Assumes nothing.
 use Rattle.std.specs.Prelude.{ℕ, zero, suc, ◌+◌, ◌-◌, ◌*◌, Bool, true, false, cond, not, ◌&&◌, ◌||◌, List, [], ◌∷◌, ◌++◌, length, take, drop, Ok, Err, Result, ◌==◌, nat_lt, slice_index}
+use Rattle.std.specs.List.{list_any}
 use Rattle.kinds.specs.Targets.{is_target}
 use Rattle.kinds.specs.declared.targets.Target.{Target}
 use Rattle.planfile.specs.declared.faults.FileFault.{FileFault}
@@ -25,8 +26,7 @@ fields_in c = length c.lines + length c.targets
 
 -- Whether one of the targets has this number.
 abbrev pub numbered : ℕ → List Target → Bool
-numbered n [] = false
-numbered n (t ∷ more) = t.number == n || numbered n more
+numbered n targets = list_any (λ t. t.number == n) targets
 
 -- The number in two bytes, or in four, from the index i on: high byte first.
 abbrev pub two_at : List ℕ → ℕ → ℕ

@@ -1,15 +1,14 @@
 -- What the reader's functions answer, in the words of the format. Assumes nothing.
-use Rattle.std.specs.Prelude.{◌≡◌, ℕ, zero, suc, ◌+◌, ◌-◌, cond, List, [], ◌∷◌, length, Some, None, Ok, Err, Option, Result, ◌==◌}
+use Rattle.std.specs.Prelude.{ℕ, zero, suc, ◌+◌, List, [], ◌∷◌, length, Ok, Err, Result}
 use Rattle.planfile.specs.declared.faults.FileFault.{FileFault}
 use Rattle.planfile.specs.declared.faults.Cause.{Cause}
-use Rattle.planfile.specs.declared.faults.Cause.TheVariants.{WrongCount, TrailingBytes}
 use Rattle.planfile.specs.declared.read.Summary.{Summary}
 use Rattle.planfile.specs.declared.read.Field.{Field}
-use Rattle.planfile.specs.declared.read.Field.TheVariants.{Piece, Target as Aim, End}
+use Rattle.planfile.specs.declared.read.Field.TheVariants.{Item as One, End}
 use Rattle.planfile.specs.declared.read.Step.{Step}
 use Rattle.planfile.specs.declared.fields.Fields.{Fields}
 use Rattle.planfile.specs.declared.fields.Item.{Item}
-use Rattle.planfile.specs.declared.fields.Item.TheVariants.{Piece as Line, Target as Goal}
+use Rattle.planfile.specs.declared.fields.Item.TheVariants.{Piece, Target as Aim}
 use Rattle.kinds.specs.declared.targets.Target.{Target}
 use Rattle.planfile.specs.Format.{Content, Meaning, piece, target, end, Front, ◌then◌, front}
 
@@ -26,9 +25,12 @@ counted (Ok c) = Ok (counts c)
 counted (Err e) = Err e
 
 -- What the reader's own types say.
+abbrev pub item_said : Item → Meaning
+item_said (Piece line) = piece line.now
+item_said (Aim t) = target t
+
 abbrev pub said : Field → Meaning
-said (Piece line) = piece line.now
-said (Aim t) = target t
+said (One item) = item_said item
 said (End count) = end count
 
 abbrev pub stepped : Result Step Cause → Result Front Cause
@@ -38,13 +40,6 @@ stepped (Err cause) = Err cause
 abbrev pub told : Result Field Cause → Result Meaning Cause
 told (Ok f) = Ok (said f)
 told (Err cause) = Err cause
-
--- What comes of an end field, by the counts so far.
-abbrev pub ending : ℕ → Summary → ℕ → ℕ → List ℕ → Result Summary FileFault
-ending size sum count place rest =
-    cond (count == sum.pieces + sum.targets)
-    (cond (length rest == 0) (Ok sum) (Err (record { cause = TrailingBytes; place = size - length rest })))
-    (Err (record { cause = WrongCount; place = place }))
 
 -- The pieces and targets at the front of some bytes, up to an end field or to what is no field, in at most `most` fields.
 abbrev pub gathered : (List ℕ → List Meaning) → Result Front Cause → List Meaning
@@ -79,9 +74,3 @@ targets_in (end count ∷ more) = targets_in more
 
 abbrev pub content_in : List Meaning → Content
 content_in items = record { lines = lines_in items; targets = targets_in items }
-
--- What `next` gives: the first of what was to come, and the others are to come then; or nothing is to come.
-abbrev pub GivenNext : List Meaning → Option Item → List Meaning → Type 0
-GivenNext all None after = (all ≡ []) × (after ≡ [])
-GivenNext all (Some (Line line)) after = all ≡ piece line.now ∷ after
-GivenNext all (Some (Goal t)) after = all ≡ target t ∷ after

@@ -1,5 +1,5 @@
 -- What a writer leaves in the output, and what it answers. Assumes nothing.
-use Rattle.std.specs.Prelude.{◌≡◌, ℕ, ◌+◌, Bool, cond, ◌&&◌, List, ◌++◌, length, take, drop, Ok, Err, Result, nat_le}
+use Rattle.std.specs.Prelude.{◌≡◌, ℕ, ◌+◌, Bool, true, cond, ◌&&◌, List, ◌++◌, length, take, drop, Ok, Err, Result, nat_le}
 use Rattle.kinds.specs.declared.targets.Target.{Target}
 use Rattle.planfile.specs.declared.faults.FileFault.{FileFault}
 use Rattle.planfile.specs.declared.faults.Cause.TheVariants.{TargetOutside, NumberTwice, NoRoom}
@@ -20,6 +20,15 @@ left_after out at field = cond (fits out at field) (written out at field) out
 -- The position after the field, or the refusal.
 abbrev pub answer : List ℕ → ℕ → List ℕ → Result ℕ FileFault
 answer out at field = cond (fits out at field) (Ok (at + length field)) (Err (record { cause = NoRoom; place = 0 }))
+
+-- What putting a field gives: the answer, and the output after it.
+pub record Puts (out : List ℕ) (at : ℕ) (field : List ℕ) (result : Result ℕ FileFault) (after : List ℕ) : Type 0 where
+  pub answered : result ≡ answer out at field
+  pub output : after ≡ left_after out at field
+
+-- Bytes that fit are written, and the position after them is the answer.
+abbrev pub Appends : List ℕ → ℕ → List ℕ → Result ℕ FileFault → List ℕ → Type 0
+Appends out at bytes result after = fits out at bytes ≡ true → (result ≡ Ok (at + length bytes)) × (after ≡ written out at bytes)
 
 -- A file written again, by the verdict on it: what it says, at the start of the output; a refused file leaves the output as it was.
 abbrev pub rewritten : Result Content FileFault → List ℕ → List ℕ

@@ -1,23 +1,13 @@
 // A file made of a text and of targets.
-ghost use Rattle.std.specs.Prelude.{◌≡◌, ◌+◌, ◌≤◌, true, length, Ok};
-ghost use Rattle.std.specs.List.{flat_map};
-ghost use Rattle.planfile.specs.Files.{piece_field, target_field, file_of, all_targets, distinct};
-ghost use Rattle.planfile.specs.Text.{lines_of, line_end};
-ghost use Rattle.planfile.specs.Writing.{written, left_after, answer, write_answer, write_output, content_of, SaysSame};
+ghost use Rattle.std.specs.Prelude.{◌≡◌, ◌≤◌, true, length, Ok, ◌==◌};
+ghost use Rattle.planfile.specs.Files.{file_of, all_targets, distinct};
+ghost use Rattle.planfile.specs.Text.{lines_of};
+ghost use Rattle.planfile.specs.Writing.{Puts, write_answer, write_output, content_of, SaysSame};
 
-use super::put::NO_ROOM;
-use super::{Cause, FileFault, MOST_BYTES, put_end, put_piece, put_target};
+use super::numbers::Numbers;
+use super::put::put_whole;
+use super::{Cause, FileFault, Item, MOST_BYTES};
 use kinds::{Kind, Target, Targets};
-
-const OUTSIDE: FileFault = FileFault {
-    cause: Cause::TargetOutside,
-    place: 2,
-};
-
-const TWICE: FileFault = FileFault {
-    cause: Cause::NumberTwice,
-    place: 2,
-};
 
 /// Writes the file of a text, cut after each newline, and of targets to the start of the output, and gives its length.
 pub fn write(text: &[u8], targets: &[Target], out: &mut [u8]) -> Result<u32, FileFault>
@@ -26,10 +16,10 @@ pub fn write(text: &[u8], targets: &[Target], out: &mut [u8]) -> Result<u32, Fil
     ensures same { SaysSame (Ok (content_of (lines_of text.now) targets.now)) result out.new }
 {
     if !all_admitted(targets) {
-        return Err(OUTSIDE);
+        return Err(Cause::TargetOutside.at(2));
     }
     if !all_distinct(targets) {
-        return Err(TWICE);
+        return Err(Cause::NumberTwice.at(2));
     }
     put_file(text, targets, out)
 }
@@ -38,57 +28,46 @@ pub fn write(text: &[u8], targets: &[Target], out: &mut [u8]) -> Result<u32, Fil
 fn all_admitted(targets: &[Target]) -> bool
     ensures { result ≡ all_targets targets.now }
 {
-    for target in targets {
-        if !Targets::admits(*target) {
-            return false;
-        }
-    }
-    true
+    targets.iter().all(|target| Targets::admits(*target))
 }
 
-/// Whether no number comes twice, by a table of the numbers seen.
+/// Whether no number comes twice.
 fn all_distinct(targets: &[Target]) -> bool
     requires { all_targets targets.now ≡ true }
     ensures { result ≡ distinct targets.now }
 {
-    let mut seen = [false; 10000];
+    let mut seen = Numbers::none();
+    // No `all`: of a closure that changes the set, a contract says nothing.
     for target in targets {
-        if seen[target.number as usize] {
+        if !seen.insert(target.number) {
             return false;
         }
-        seen[target.number as usize] = true;
     }
     true
 }
 
 /// Writes the file where it fits, else refuses and writes nothing.
 fn put_file(text: &[u8], targets: &[Target], out: &mut [u8]) -> Result<u32, FileFault>
-    ensures answer { result ≡ answer out.old 0 (file_of (lines_of text.now) targets.now) }
-    ensures output { out.new ≡ left_after out.old 0 (file_of (lines_of text.now) targets.now) }
+    ensures { Puts out.old 0 (file_of (lines_of text.now) targets.now) result out.new }
 {
     if text.len() > MOST_BYTES || targets.len() > MOST_BYTES {
-        return Err(NO_ROOM);
+        return Err(Cause::NoRoom.at(0));
     }
     let lines = count_lines(text);
     let size = text.len() + 3 * lines + 9 * targets.len() + 5;
     if size > MOST_BYTES || size > out.len() {
-        return Err(NO_ROOM);
+        return Err(Cause::NoRoom.at(0));
     }
-    let at = put_lines(text, out)?;
-    let at = put_targets(targets, out, at)?;
-    put_end(out, at, (lines + targets.len()) as u16)
+    let count = (lines + targets.len()) as u16;
+    let lines = text.split_inclusive(is_newline).map(Item::Piece);
+    put_whole(lines, targets.iter().map(target_item), count, out)
 }
 
-/// How many bytes the first line has.
-fn first_line(text: &[u8]) -> usize
-    ensures { result ≡ line_end text.now }
+/// Whether a byte ends a line.
+fn is_newline(byte: &u8) -> bool
+    ensures { result ≡ (byte.now == 0x0A) }
 {
-    for (i, byte) in text.iter().enumerate() {
-        if *byte == b'\n' {
-            return i + 1;
-        }
-    }
-    text.len()
+    *byte == b'\n'
 }
 
 /// How many lines the text has.
@@ -96,40 +75,12 @@ fn count_lines(text: &[u8]) -> usize
     ensures lines { result ≡ length (lines_of text.now) }
     ensures few { result ≤ length text.now }
 {
-    let mut left = text;
-    let mut count = 0;
-    while !left.is_empty() {
-        let (_, rest) = left.split_at(first_line(left));
-        left = rest;
-        count += 1;
-    }
-    count
+    text.split_inclusive(is_newline).count()
 }
 
-/// Writes each line of the text, for which there is room, and gives the position after them.
-fn put_lines(text: &[u8], out: &mut [u8]) -> Result<u32, FileFault>
-    requires { (length (flat_map piece_field (lines_of text.now)) ≤ length out.old) × (length (flat_map piece_field (lines_of text.now)) ≤ 65535) }
-    ensures answer { result ≡ Ok (length (flat_map piece_field (lines_of text.now))) }
-    ensures output { out.new ≡ written out.old 0 (flat_map piece_field (lines_of text.now)) }
+/// A target as an item, with the lifetime of the list: the bare variant leaves that open, which the check does not cover.
+fn target_item<'a>(target: &'a Target) -> Item<'a>
+    ensures { result ≡ Item.Target target.now }
 {
-    let mut left = text;
-    let mut at = 0;
-    while !left.is_empty() {
-        let (line, rest) = left.split_at(first_line(left));
-        at = put_piece(out, at, line)?;
-        left = rest;
-    }
-    Ok(at)
-}
-
-/// Writes each target, for which there is room, and gives the position after them.
-fn put_targets(targets: &[Target], out: &mut [u8], mut at: u32) -> Result<u32, FileFault>
-    requires { (at + length (flat_map target_field targets.now) ≤ length out.old) × (at + length (flat_map target_field targets.now) ≤ 65535) }
-    ensures answer { result ≡ Ok (at + length (flat_map target_field targets.now)) }
-    ensures output { out.new ≡ written out.old at (flat_map target_field targets.now) }
-{
-    for target in targets {
-        at = put_target(out, at, *target)?;
-    }
-    Ok(at)
+    Item::Target(*target)
 }

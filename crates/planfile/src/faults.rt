@@ -1,6 +1,9 @@
 // Why a file, or the writing of one, is refused.
 ghost use Rattle.std.specs.Prelude.{◌≡◌};
-ghost use Rattle.planfile.specs.Faults.{number_of};
+ghost use Rattle.planfile.specs.Faults.{number_of, fault_at};
+
+use std::error::Error;
+use std::fmt;
 
 /// What is wrong. The number of each is what users know it by.
 #[derive(Clone, Copy, PartialEq, Eq, Debug)]
@@ -43,6 +46,15 @@ pub struct FileFault {
     pub place: u32,
 }
 
+impl Cause {
+    /// The refusal for this cause at a place.
+    pub(crate) fn at(self, place: u32) -> FileFault
+        ensures { result ≡ fault_at self place }
+    {
+        FileFault { cause: self, place }
+    }
+}
+
 impl FileFault {
     /// The number of the refusal.
     pub fn number(self) -> u8
@@ -62,3 +74,36 @@ impl FileFault {
         }
     }
 }
+
+impl fmt::Display for Cause {
+    fn fmt<W: fmt::Write>(&self, f: &mut fmt::Formatter<W>) -> fmt::Result {
+        f.write_str(match self {
+            Cause::TooLong => "the file has more than 65535 bytes",
+            Cause::ShortHeader => "only one or two bytes are left where a field begins",
+            Cause::ShortValue => "the value of a field runs past the end of the file",
+            Cause::UnknownTag => "a field with a tag that is none of 02, 03 and 7F",
+            Cause::EmptyPiece => "a line with no bytes",
+            Cause::InnerNewline => "a newline before the last byte of a line",
+            Cause::WrongLength => "a length that a field with this tag does not have",
+            Cause::TargetOutside => "a target's number outside 1 to 9999, or its range over 99999",
+            Cause::RepeatedNumber => "a target number that came before",
+            Cause::MissingEnd => "the end field is missing",
+            Cause::WrongCount => "the end field does not count the fields before it",
+            Cause::TrailingBytes => "bytes after the end field",
+            Cause::NumberTwice => "a target number that comes twice",
+            Cause::NoRoom => {
+                "the output is too short, or the file would have more than 65535 bytes"
+            }
+        })
+    }
+}
+
+impl fmt::Display for FileFault {
+    fn fmt<W: fmt::Write>(&self, f: &mut fmt::Formatter<W>) -> fmt::Result {
+        let number = self.number();
+        let FileFault { cause, place } = self;
+        write!(f, "number {number}, layer file, place {place}: {cause}")
+    }
+}
+
+impl Error for FileFault {}

@@ -1,11 +1,10 @@
 // The lines and targets of an accepted file, one after another.
-ghost use Rattle.std.specs.Prelude.{◌≡◌, length, Ok};
+ghost use Rattle.std.specs.Prelude.{◌≡◌, Ok};
+ghost use Rattle.std.specs.Iterator.{YieldsFirstBy, item_count};
 ghost use Rattle.planfile.specs.Format.{Content, verdict};
-ghost use Rattle.planfile.specs.Reading.{ahead, coming, content_in, GivenNext};
-ghost use Rattle.std.specs.Iterator.{at_most};
+ghost use Rattle.planfile.specs.Reading.{ahead, coming, content_in, item_said};
 
-use super::read;
-use super::read::Field;
+use super::read::{Field, Step, first_field};
 use kinds::Target;
 
 /// A line, as a part of the file's own bytes, or a target.
@@ -34,20 +33,21 @@ impl<'a> Fields<'a> {
 impl<'a> Iterator for Fields<'a> {
     type Item = Item<'a>;
 
-    ghost next_gives = { λ s r t. GivenNext (coming s) r (coming t) };
+    ghost next_gives = { YieldsFirstBy item_said coming };
 
-    ghost remaining = { λ s. at_most (length (coming s)) };
+    ghost remaining = { item_count coming };
 
     fn next(&mut self) -> Option<Item<'a>> {
-        let Ok(step) = read::first_field(self.left) else {
+        let Ok(
+            Step {
+                field: Field::Item(item),
+                rest,
+            },
+        ) = first_field(self.left)
+        else {
             return None;
         };
-        let item = match step.field {
-            Field::Piece(line) => Item::Piece(line),
-            Field::Target(target) => Item::Target(target),
-            Field::End(_) => return None,
-        };
-        self.left = step.rest;
+        self.left = rest;
         Some(item)
     }
 }

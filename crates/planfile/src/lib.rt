@@ -13,6 +13,7 @@ mod again;
 mod compose;
 mod faults;
 mod fields;
+mod numbers;
 mod put;
 mod read;
 

@@ -1,38 +1,38 @@
 // Writing: a field at a position of the output.
-ghost use Rattle.std.specs.Prelude.{◌≡◌, ◌+◌, ◌≤◌, length, Ok};
-ghost use Rattle.planfile.specs.Files.{two_bytes as in_two_bytes, field_of, piece_field, target_field, end_field};
-ghost use Rattle.planfile.specs.Writing.{written, left_after, answer};
+ghost use Rattle.std.specs.Prelude.{◌≡◌, ◌+◌, ◌≤◌, List, ◌++◌, length};
+ghost use Rattle.std.specs.List.{flat_map};
+ghost use Rattle.std.specs.Iterator.{IsFinite, AlwaysYields};
+ghost use Rattle.planfile.specs.Format.{Meaning};
+ghost use Rattle.planfile.specs.Files.{field_of, piece_field, target_field, end_field, field_saying};
+ghost use Rattle.planfile.specs.Reading.{item_said};
+ghost use Rattle.planfile.specs.Writing.{written, Puts, Appends};
 
-use super::{Cause, FileFault, MOST_BYTES};
+use super::{Cause, FileFault, Item, MOST_BYTES};
 use kinds::Target;
-
-/// The refusal of what does not fit the output, or a file.
-pub(crate) const NO_ROOM: FileFault = FileFault {
-    cause: Cause::NoRoom,
-    place: 0,
-};
 
 /// Writes a field that fits.
 fn write_field(out: &mut [u8], at: usize, tag: u8, value: &[u8])
-    requires { (at + 3 + length value.now ≤ length out.old) × (length value.now ≤ 65535) }
+    requires room { at + 3 + length value.now ≤ length out.old }
+    requires short { length value.now ≤ 65535 }
     ensures { out.new ≡ written out.old at (field_of tag value.now) }
 {
-    let size = value.len();
-    out[at] = tag;
-    out[at + 1] = (size / 256) as u8;
-    out[at + 2] = (size % 256) as u8;
-    out[at + 3..at + 3 + size].copy_from_slice(value);
+    let [hi, lo] = (value.len() as u16).to_be_bytes();
+    let start = at + 3;
+    out[at..start].copy_from_slice(&[tag, hi, lo]);
+    out[start..start + value.len()].copy_from_slice(value);
 }
+
+// The output and the position travel side by side, as users pass them: a struct of both would be made in each function
+// and taken apart again for the position in the answer.
 
 /// Writes a field at a position and gives the position after it, or refuses and writes nothing.
 fn put_field(out: &mut [u8], at: u32, tag: u8, value: &[u8]) -> Result<u32, FileFault>
-    ensures answer { result ≡ answer out.old at (field_of tag value.now) }
-    ensures output { out.new ≡ left_after out.old at (field_of tag value.now) }
+    ensures { Puts out.old at (field_of tag value.now) result out.new }
 {
     let start = at as usize;
     let end = start + 3 + value.len();
     if end > out.len() || end > MOST_BYTES {
-        return Err(NO_ROOM);
+        return Err(Cause::NoRoom.at(0));
     }
     write_field(out, start, tag, value);
     Ok(end as u32)
@@ -40,34 +40,69 @@ fn put_field(out: &mut [u8], at: u32, tag: u8, value: &[u8]) -> Result<u32, File
 
 /// Appends one line.
 pub fn put_piece(out: &mut [u8], at: u32, line: &[u8]) -> Result<u32, FileFault>
-    ensures answer { result ≡ answer out.old at (piece_field line.now) }
-    ensures output { out.new ≡ left_after out.old at (piece_field line.now) }
+    ensures { Puts out.old at (piece_field line.now) result out.new }
 {
     put_field(out, at, 0x02, line)
 }
 
 /// Appends one target.
 pub fn put_target(out: &mut [u8], at: u32, target: Target) -> Result<u32, FileFault>
-    ensures answer { result ≡ answer out.old at (target_field target) }
-    ensures output { out.new ≡ left_after out.old at (target_field target) }
+    ensures { Puts out.old at (target_field target) result out.new }
 {
-    let [n1, n0] = two_bytes(target.number);
-    let [r3, r2] = two_bytes((target.range / 65536) as u16);
-    let [r1, r0] = two_bytes((target.range % 65536) as u16);
+    let [n1, n0] = target.number.to_be_bytes();
+    let [r3, r2, r1, r0] = target.range.to_be_bytes();
     put_field(out, at, 0x03, &[n1, n0, r3, r2, r1, r0])
 }
 
 /// Appends the end of a file with so many fields before it.
 pub fn put_end(out: &mut [u8], at: u32, count: u16) -> Result<u32, FileFault>
-    ensures answer { result ≡ answer out.old at (end_field count) }
-    ensures output { out.new ≡ left_after out.old at (end_field count) }
+    ensures { Puts out.old at (end_field count) result out.new }
 {
-    put_field(out, at, 0x7F, &two_bytes(count))
+    put_field(out, at, 0x7F, &count.to_be_bytes())
 }
 
-/// A number in two bytes, the high one first.
-fn two_bytes(n: u16) -> [u8; 2]
-    ensures { result ≡ in_two_bytes n }
+/// Appends one item.
+fn put_item(out: &mut [u8], at: u32, item: Item<'_>) -> Result<u32, FileFault>
+    ensures { Puts out.old at (field_saying (item_said item.entry)) result out.new }
 {
-    [(n / 256) as u8, (n % 256) as u8]
+    match item {
+        Item::Piece(line) => put_piece(out, at, line),
+        Item::Target(target) => put_target(out, at, target),
+    }
+}
+
+/// Appends the items, and gives the position after them: where there is room for all of them, just these.
+fn put_all<'a, I: Iterator<Item = Item<'a>> + Drop>(
+    items: I,
+    out: &mut [u8],
+    mut at: u32,
+) -> Result<u32, FileFault>
+    requires can { I.can_next items }
+    requires ends { IsFinite (I.remaining items) }
+    ensures { (all : List Meaning) → AlwaysYields I.next_gives item_said items all →
+        Appends out.old at (flat_map field_saying all) result out.new }
+{
+    for item in items {
+        at = put_item(out, at, item)?;
+    }
+    Ok(at)
+}
+
+/// Writes lines and targets and an end that counts so many of them: where there is room for all, just these.
+pub(crate) fn put_whole<
+    'a,
+    L: Iterator<Item = Item<'a>> + Drop,
+    T: Iterator<Item = Item<'a>> + Drop,
+>(lines: L, targets: T, count: u16, out: &mut [u8]) -> Result<u32, FileFault>
+    requires lines_can { L.can_next lines }
+    requires lines_end { IsFinite (L.remaining lines) }
+    requires targets_can { T.can_next targets }
+    requires targets_end { IsFinite (T.remaining targets) }
+    ensures { (ls ts : List Meaning) → AlwaysYields L.next_gives item_said lines ls →
+        AlwaysYields T.next_gives item_said targets ts →
+        Appends out.old 0 (flat_map field_saying ls ++ (flat_map field_saying ts ++ end_field count)) result out.new }
+{
+    let at = put_all(lines, out, 0)?;
+    let at = put_all(targets, out, at)?;
+    put_end(out, at, count)
 }

@@ -231,3 +231,17 @@ fn lines_first(rt: HostRuntime) {
         })
     );
 }
+
+#[test]
+fn a_fault_in_words(rt: HostRuntime) -> Result<(), Fail> {
+    let fault = FileFault {
+        cause: Cause::WrongCount,
+        place: 15,
+    };
+    let words = format!(in rt.alloc(); "{fault}")?;
+    assert_eq!(rt;
+        words.as_str(),
+        "number 7, layer file, place 15: the end field does not count the fields before it"
+    );
+    Ok(())
+}

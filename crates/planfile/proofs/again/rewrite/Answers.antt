@@ -1,9 +1,10 @@
-use Rattle.std.proofs.Common.{◌+◌, ◌≤◌, ◌++◌, length, sym, ap, ◌∙◌, ap₂, arith, rules}
+use Rattle.std.proofs.Common.{◌+◌, ◌≤◌, ◌++◌, Err, sym, refl, ap, ◌∙◌, ap₂, subst, arith, rules, tests}
 use Rattle.std.specs.List.{flat_map}
-use Rattle.planfile.specs.Files.{piece_field, target_field, end_field}
-use Rattle.planfile.specs.Reading.{coming, content_in}
-use Rattle.planfile.specs.Writing.{left_after, answer, rewritten, rewrite_answer}
-use Rattle.planfile.proofs.Rewrites.{accepted, no_room, room_for_targets, three_put, says_same}
+use Rattle.std.proofs.lemmas.Iterator.Consumers.{YieldsList-at, YieldsList-from_first, YieldsList-from_filter}
+use Rattle.planfile.specs.Files.{piece_field, target_field, end_field, file_of}
+use Rattle.planfile.specs.Reading.{coming, item_said}
+use Rattle.planfile.specs.Writing.{rewritten, rewrite_answer, Appends}
+use Rattle.planfile.proofs.Rewrites.{accepted, content_size, no_room, is_piece, is_aim, lines_put, targets_put, put_fits_whole, says_same}
 use Rattle.planfile.proofs.again.rewrite.Goals as goal
 
 pub returns-then-out-file : goal.returns-then-out-file
@@ -11,18 +12,7 @@ returns-then-out-file c =
     let file = c.args.file.now in
     let a = accepted file c.in_ok-sum.sum c.in_ok-sum.ensures.verdict in
     let none = no_room file c.args.out.now _ a c.if-out-file.true in
-    record { answer = none.0; output = none.1; same = tt }
-
-pub put_pieces-requires : goal.put_pieces-requires
-put_pieces-requires c =
-    let a = accepted c.args.file.now c.in_ok-sum.sum c.in_ok-sum.ensures.verdict in
-    let lines = ap (λ d. length (flat_map piece_field d.lines)) (c.of-items.ensures.accepted a.content a.is) in
-    (omega (arith, a.size, c.if-out-file.false), omega (arith, a.size, a.short))
-
-pub put_targets-requires : goal.put_targets-requires
-put_targets-requires c =
-    let a = accepted c.args.file.now c.in_ok-sum.sum c.in_ok-sum.ensures.verdict in
-    room_for_targets c.args.file.now c.args.out.now _ a (content_in (coming c.of-items.result)) c.in_ok-at.at _ (c.of-items.ensures.accepted a.content a.is) c.if-out-file.false c.put_pieces.auto.out c.in_ok-at.ensures.answer
+    record { answer = ap Err c.at.ensures ∙ none.0; output = none.1; same = tt }
 
 pub overflow_add-sum : goal.overflow_add-sum
 overflow_add-sum c =
@@ -40,19 +30,17 @@ pub returns : goal.returns
 returns c =
     let out = c.args.out.now in
     let a = accepted c.args.file.now c.in_ok-sum.sum c.in_ok-sum.ensures.verdict in
-    let items = content_in (coming c.of-items.result) in
+    let coming_items = coming c.of-items.result in
     let is = c.of-items.ensures.accepted a.content a.is in
-    let lines = ap (λ d. length (flat_map piece_field d.lines)) is in
-    let targets = ap (λ d. length (flat_map target_field d.targets)) is in
-    let p = flat_map piece_field items.lines in
-    let t = flat_map target_field items.targets in
-    let e = end_field (c.in_ok-sum.sum.pieces + c.in_ok-sum.sum.targets) in
-    let room : length p + length t + length e ≤ length out = omega (arith, a.size, c.if-out-file.false) in
-    let few : length p + length t + length e ≤ 65535 = omega (arith, a.size, a.short) in
-    let all = ap₂ (λ d n. flat_map piece_field d.lines ++ (flat_map target_field d.targets ++ end_field n)) is a.count in
-    let first = c.in_ok-at.ensures in
-    let second = c.in_ok-at-2.ensures in
-    let put = three_put out p t e room few _ _ _ _ _ _ first.output first.answer second.output second.answer (c.put_targets.auto.out ∙ c.put_pieces.auto.out) c.put_end.ensures.answer c.put_end.ensures.output in
-    let answered = put.0 ∙ ap (answer out 0) all ∙ sym (ap (λ v. rewrite_answer v out) a.is) in
-    let output = put.1 ∙ ap (left_after out 0) all ∙ sym (ap (λ v. rewritten v out) a.is) in
+    let size = content_size a.content in
+    let all = YieldsList-from_first item_said coming coming_items refl in
+    let whole = c.put_whole.ensures _ _
+    (YieldsList-from_filter _ is_piece (YieldsList-at c.filter-lines.ensures.source all) c.filter-lines.ensures.closure (λ x b q k. search (rules, tests))).runs
+    (YieldsList-from_filter _ is_aim (YieldsList-at c.filter-targets.ensures.source all) c.filter-targets.ensures.closure (λ x b q k. search (rules, tests))).runs in
+    let bytes = ap₂ (λ l t. l ++ (t ++ end_field (c.in_ok-sum.sum.pieces + c.in_ok-sum.sum.targets))) (lines_put coming_items) (targets_put coming_items)
+    ∙ ap₂ (λ d n. flat_map piece_field d.lines ++ (flat_map target_field d.targets ++ end_field n)) is a.count in
+    let file = file_of a.content.lines a.content.targets in
+    let put = put_fits_whole out file _ _ (omega (arith, a.size, size, c.if-out-file.false)) (omega (arith, a.size, size, a.short)) (subst (λ b. Appends out 0 b c.put_whole.result c.put_whole.new.out) bytes whole) in
+    let answered = put.answered ∙ sym (ap (λ v. rewrite_answer v out) a.is) in
+    let output = put.output ∙ sym (ap (λ v. rewritten v out) a.is) in
     record { answer = answered; output = output; same = says_same c.args.file.now out _ _ answered output }
