@@ -37,7 +37,7 @@ pub fn make_node<K: Kind>(arena: &mut Arena<'_, K::Item, K::Total>, level: u32, 
     let weight = toward::<K>(Side::Front, first, others);
     arena.take(Body::Node {
         weight,
-        parts: parts.plain(),
+        parts: parts.into(),
     })
 }
 
@@ -79,9 +79,9 @@ pub fn make_deep<K: Kind>(
     let weight = toward::<K>(Side::Front, first, toward::<K>(Side::Front, inner, last));
     let at = arena.take(Body::Deep {
         weight,
-        front: front.plain(),
+        front: front.into(),
         middle,
-        back: back.plain(),
+        back: back.into(),
     });
     Root {
         levels: middle.levels + 1,

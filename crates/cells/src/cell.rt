@@ -1,7 +1,8 @@
 // Cells, and what they hold.
 use super::fingers::Fingers;
 
-// A cell of a store. The link is the next free cell, where this one is free.
+// A cell of a store. The link is the next free cell, where this one is free; it stands beside the body, since who reads
+// what a cell holds has nothing to do with the list of the free ones.
 #[derive(Clone, Copy)]
 pub struct Cell<I, T> {
     pub link: u32,
@@ -37,7 +38,8 @@ pub struct FreeList {
     pub count: u32,
 }
 
-// A tree: how many levels it has, and the cell of the first. A tree of no levels is empty.
+// A tree: how many levels it has, and the cell of the first. A tree of no levels is empty, which an Option would say a
+// second time.
 #[derive(Clone, Copy)]
 pub struct Root {
     pub levels: u8,

@@ -1,33 +1,40 @@
 // What is done with the fingers at one end of a level.
-ghost use Rattle.std.specs.Prelude.{◌≡◌, ℕ, ◌+◌, ◌-◌, ◌<◌, ◌≤◌, List, [], ◌∷◌, ◌++◌, length, MatchOption, slice_set};
-ghost use Rattle.cells.specs.Fingers.{listed, listed_some, held};
+ghost use Rattle.std.specs.Prelude.{◌≡◌, ℕ, ◌+◌, ◌-◌, ◌<◌, ◌≤◌, List, [], ◌∷◌, ◌++◌, length, slice_set};
+ghost use Rattle.cells.specs.Fingers.{listed, listed_some};
+ghost use Rattle.cells.specs.Conversions.{IsDigit, HeldAs};
 ghost use Rattle.model.specs.Append.{onto};
 
 use super::fingers::{Digit, Fingers};
 
-impl Fingers {
-    // The fingers as a digit, if there are one to four.
-    pub fn digit(self) -> Option<Digit>
-        ensures { MatchOption result (1 ≤ length (held self) → ⊥) (λ d. listed d ≡ held self) }
-    {
-        let Fingers { count, at } = self;
+// Fingers that are none, or more than four.
+#[derive(Clone, Copy)]
+pub struct NoDigit;
+
+impl TryFrom<Fingers> for Digit {
+    type Error = NoDigit;
+
+    ghost try_from_gives = { IsDigit };
+
+    fn try_from(fingers: Fingers) -> Result<Digit, NoDigit> {
+        let Fingers { count, at } = fingers;
         if 1 <= count && count <= 4 {
-            Some(Digit { count, at })
+            Ok(Digit { count, at })
         } else {
-            None
+            Err(NoDigit)
         }
     }
 }
 
-impl Digit {
-    // The same fingers as a cell holds them.
-    pub fn plain(self) -> Fingers
-        ensures { held result ≡ listed self }
-    {
-        let Digit { count, at } = self;
+impl From<Digit> for Fingers {
+    ghost from_gives = { HeldAs };
+
+    fn from(digit: Digit) -> Fingers {
+        let Digit { count, at } = digit;
         Fingers { count, at }
     }
+}
 
+impl Digit {
     // So many fingers, from one to four.
     pub fn of<const N: usize>(fingers: [u32; N]) -> Digit
         requires some { 1 ≤ N }

@@ -118,10 +118,10 @@ impl<I: Copy, T: Copy> Arena<'_, I, T> {
                 middle,
                 back,
             } => {
-                let Some(front) = front.digit() else {
+                let Ok(front) = Digit::try_from(front) else {
                     unreachable();
                 };
-                let Some(back) = back.digit() else {
+                let Ok(back) = Digit::try_from(back) else {
                     unreachable();
                 };
                 let (near, far) = side.ordered(front, back);
@@ -139,7 +139,7 @@ impl<I: Copy, T: Copy> Arena<'_, I, T> {
         let Body::Node { weight: _, parts } = self.body(at) else {
             unreachable();
         };
-        let Some(parts) = parts.digit() else {
+        let Ok(parts) = Digit::try_from(parts) else {
             unreachable();
         };
         match side {

@@ -106,12 +106,6 @@ module _ {I T Q : Type 0} (q : Algebra I T Q) (s : Side) (h : List (Cell I T)) (
   pub pop_first : {h' : List (Cell I T)} {o : Root} → MadeTree h h' root.levels k o (trim q s (nodes h k others) (rooted h (suc k) m) (nodes h k (listed far)) (pop q s (rooted h (suc k) m))) → MadePop h h' root.levels k (Some (record { taken = a; rest = o })) (pop q s (rooted h k root))
   pop_first u = record { grown = u.grown; reads = rw (keep_node u.grown.extends k a first_formed.0, u.reads) (sym popped_is) }
 
-  pub trimmed_some : {h' : List (Cell I T)} {o : Root} → 1 ≤ length others → MadeTree h h' 1 k o (deep_at q s (nodes h k others) (rooted h (suc k) m) (nodes h k (listed far))) → MadeTree h h' root.levels k o (trim q s (nodes h k others) (rooted h (suc k) m) (nodes h k (listed far)) (pop q s (rooted h (suc k) m)))
-  trimmed_some l u =
-      let some : 1 ≤ length (nodes h k others) = simp length-map l in
-      let z = seen.levels in
-      made_as root.levels _ u (trim_some q s (nodes h k others) _ _ _ some) (omega arith)
-
 -- fingers that are left at the side
 pub trimmed_near : {I T : Type 0} {Q : Type 0} (q : Algebra I T Q) (s : Side) {h h' : List (Cell I T)} {k : ℕ} {o : Root} (near : List ℕ) (m : Tree I T) (far : List (Node I T)) (e : ℕ) → 1 ≤ length near → 1 ≤ e → MadeTree h h' 1 k o (deep_at q s (nodes h k near) m far) → MadeTree h h' e k o (trim q s (nodes h k near) m far (pop q s m))
 trimmed_near q s {h} {h'} {k} near m far e l z u =

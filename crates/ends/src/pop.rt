@@ -73,6 +73,7 @@ pub fn refill<K: Kind>(
 }
 
 // The finger at a side, and the tree without it, if there is one.
+#[cycle(popping)]
 pub fn pop<K: Kind>(
     arena: &mut Arena<'_, K::Item, K::Total>,
     level: u32,
@@ -93,13 +94,7 @@ pub fn pop<K: Kind>(
         }),
         View::Deep { near, middle, far } => {
             let (finger, others) = near.split_first();
-            let rest = match others {
-                Some(near) => make_deep::<K>(arena, level, side, near, middle, far),
-                None => {
-                    let below = pop::<K>(arena, level + 1, side, middle);
-                    refill::<K>(arena, level, side, below, far)
-                }
-            };
+            let rest = trim::<K>(arena, level, side, others, middle, far);
             Some(Popped {
                 taken: finger,
                 rest,
@@ -109,6 +104,7 @@ pub fn pop<K: Kind>(
 }
 
 // A level whose fingers at the side may be gone.
+#[cycle(popping)]
 pub fn trim<K: Kind>(
     arena: &mut Arena<'_, K::Item, K::Total>,
     level: u32,

@@ -30,7 +30,7 @@ pub trait Kind {
     /// The kind as mathematics: all that the answers below are.
     ghost kind: { Algebra Self.Item Self.Total Self.Question };
 
-    /// `MOST`, for code that is generic in the kind.
+    /// `MOST`, for code that is generic in the kind: its contracts see nothing of a trait's constant, so no body stands here.
     fn limit() -> u32
         ensures { result ≡ kind.limit };
 

@@ -17,4 +17,4 @@ returns g c =
       | else-parts-eq2 w ↦ triple q h k d.count d.at c.weigh-first.result c.weigh-second.result w.weigh.result w.toward-others.result _ (omega (arith, w.if-parts-eq2.false, c.requires.some, c.requires.few)) c.weigh-first.ensures c.weigh-second.ensures w.weigh.ensures w.toward-others.ensures (rw w.others-is at r)
     ]
     in
-    made_node q k _ c.plain.ensures c.take.ensures (omega (arith, n, c.requires.some)) (omega (arith, n, c.requires.few)) c.requires.formed weighed
+    made_node q k _ c.into.ensures c.take.ensures (omega (arith, n, c.requires.some)) (omega (arith, n, c.requires.few)) c.requires.formed weighed

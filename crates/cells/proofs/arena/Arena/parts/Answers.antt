@@ -6,11 +6,11 @@ use Rattle.cells.proofs.arena.Arena.parts.Goals as goal
 pub unreachable-requires : goal.unreachable-requires
 unreachable-requires g c = no_item c.args.self.now c.args.level c.args.at c.requires _ c.body.ensures c.in_default.not-Node
 
-pub unreachable-requires-in_default-digit : goal.unreachable-requires-in_default-digit
-unreachable-requires-in_default-digit g c = c.in_default-digit.ensures (some_parts c.args.self.now c.args.level c.args.at c.requires _ _ (sym c.in-Node.is ∙ c.body.ensures))
+pub unreachable-requires-in_default-try_from : goal.unreachable-requires-in_default-try_from
+unreachable-requires-in_default-try_from g c = c.in_default-try_from.ensures (some_parts c.args.self.now c.args.level c.args.at c.requires _ _ (sym c.in-Node.is ∙ c.body.ensures))
 
 pub returns-in-Front : goal.returns-in-Front
-returns-in-Front g c = rw c.in-Front.is (parts_front c.args.self.now c.args.level c.args.at c.requires _ _ (sym c.in-Node.is ∙ c.body.ensures) _ c.in-Some.ensures)
+returns-in-Front g c = rw c.in-Front.is (parts_front c.args.self.now c.args.level c.args.at c.requires _ _ (sym c.in-Node.is ∙ c.body.ensures) _ c.in-Ok.ensures)
 
 pub returns-in-Back : goal.returns-in-Back
-returns-in-Back g c = rw c.in-Back.is (parts_back c.args.self.now c.args.level c.args.at c.requires _ _ (sym c.in-Node.is ∙ c.body.ensures) _ (c.reversed.ensures ∙ ap (λ ps. onto ps []) c.in-Some.ensures))
+returns-in-Back g c = rw c.in-Back.is (parts_back c.args.self.now c.args.level c.args.at c.requires _ _ (sym c.in-Node.is ∙ c.body.ensures) _ (c.reversed.ensures ∙ ap (λ ps. onto ps []) c.in-Ok.ensures))

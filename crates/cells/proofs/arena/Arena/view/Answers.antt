@@ -8,11 +8,11 @@ returns-then-root-eq0 g c = (tree_none _ _ _ _ c.if-root-eq0.true, c.if-root-eq0
 
 pub unreachable-requires : goal.unreachable-requires
 unreachable-requires g c =
-    c.in_default-digit.ensures (tree_digits c.args.self.now c.args.level c.args.root (omega arith) c.requires _ _ _ _ (sym c.in-Deep.is ∙ c.body.ensures)).0
+    c.in_default-try_from.ensures (tree_digits c.args.self.now c.args.level c.args.root (omega arith) c.requires _ _ _ _ (sym c.in-Deep.is ∙ c.body.ensures)).0
 
-pub unreachable-requires-in_default-digit-2 : goal.unreachable-requires-in_default-digit-2
-unreachable-requires-in_default-digit-2 g c =
-    c.in_default-digit-2.ensures (tree_digits c.args.self.now c.args.level c.args.root (omega arith) c.requires _ _ _ _ (sym c.in-Deep.is ∙ c.body.ensures)).1
+pub unreachable-requires-in_default-try_from-2 : goal.unreachable-requires-in_default-try_from-2
+unreachable-requires-in_default-try_from-2 g c =
+    c.in_default-try_from-2.ensures (tree_digits c.args.self.now c.args.level c.args.root (omega arith) c.requires _ _ _ _ (sym c.in-Deep.is ∙ c.body.ensures)).1
 
 pub unreachable-requires-in_default : goal.unreachable-requires-in_default
 unreachable-requires-in_default g c =
@@ -22,9 +22,9 @@ pub returns-in-Single : goal.returns-in-Single
 returns-in-Single g c =
     tree_single c.args.self.now c.args.level c.args.root (omega arith) c.requires _ (sym c.in-Single.is ∙ c.body.ensures)
 
-pub returns-in-Some-digit : goal.returns-in-Some-digit
-returns-in-Some-digit g c =
+pub returns-in-Ok-try_from : goal.returns-in-Ok-try_from
+returns-in-Ok-try_from g c =
     let e = tree_deep c.args.self.now c.args.level c.args.root (omega arith) c.requires _ _ _ _ (sym c.in-Deep.is ∙ c.body.ensures) in
-    let f = c.in-Some.ensures in
-    let b = c.in-Some-digit.ensures in
-    rw c.ordered.ensures (from_side c.args.self.now c.args.level c.args.root c.in-Deep.middle c.in-Some.front c.in-Some-digit.back c.in-Deep.weight.total c.in-Deep.weight.items c.requires (rw (f, b) e.0) e.1 (end c.args.side))
+    let f = c.in-Ok.ensures in
+    let b = c.in-Ok-try_from.ensures in
+    rw c.ordered.ensures (from_side c.args.self.now c.args.level c.args.root c.in-Deep.middle c.in-Ok.front c.in-Ok-try_from.back c.in-Deep.weight.total c.in-Deep.weight.items c.requires (rw (f, b) e.0) e.1 (end c.args.side))

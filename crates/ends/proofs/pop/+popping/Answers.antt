@@ -1,11 +1,27 @@
-use Rattle.std.proofs.Common.{◌≡◌, suc, ◌+◌, arith}
+use Rattle.std.proofs.Common.{◌≡◌, suc, ◌+◌, refl, sym, ap, arith}
+use Rattle.model.specs.Ends.{pop}
 use Rattle.cells.specs.Cells.{end}
 use Rattle.cells.specs.Fingers.{listed}
-use Rattle.ends.proofs.Popping.{below_well, below_shallow, far_ready, refill_count, emptied}
-use Rattle.ends.proofs.pop.trim.Goals as goal
+use Rattle.cells.proofs.Opened.{tree_none}
+use Rattle.cells.proofs.Frames.{grown_none}
+use Rattle.ends.proofs.Pushing.{made_as}
+use Rattle.ends.proofs.Popping.{below_well, below_shallow, far_ready, refill_count, emptied, pop_first}
+use Rattle.ends.proofs.pop.+popping.Goals as goal
 
-pub refill-requires : goal.refill-requires
-refill-requires g c =
+pub pop-returns-in-Single : goal.pop-returns-in-Single
+pop-returns-in-Single g t c = record {
+  grown = grown_none c.args.root.levels;
+  reads = rw (tree_none c.args.arena.now 0 c.args.level 0 refl) (sym (ap (pop g.K.Kind.kind (end c.args.side)) c.in-Single.ensures.0));
+}
+
+pub pop-returns-in-Deep : goal.pop-returns-in-Deep
+pop-returns-in-Deep g t c =
+    let seen = c.in-Deep.ensures in
+    let levels = seen.levels in
+    pop_first g.K.Kind.kind (end c.args.side) c.args.arena.now c.args.level c.args.root seen _ _ c.split_first-finger.ensures (made_as c.args.root.levels _ c.trim-rest.ensures refl (omega arith))
+
+pub trim-refill-requires : goal.trim-refill-requires
+trim-refill-requires g t c =
     let step : suc c.args.level ≡ c.args.level + 1 = omega arith in
     let spent = c.pop-below.ensures.grown.spent in
     record {
@@ -16,7 +32,7 @@ refill-requires g c =
       fits = omega (arith, refill_count g.K.Kind.kind (end c.args.side) c.args.arena.now c.args.level c.args.middle c.requires.middle (listed c.args.far) c.requires.far step c.pop-below.ensures, c.requires.fits);
     }
 
-pub returns-in-None : goal.returns-in-None
-returns-in-None g c =
+pub trim-returns-in-None : goal.trim-returns-in-None
+trim-returns-in-None g t c =
     let step : suc c.args.level ≡ c.args.level + 1 = omega arith in
     rw c.in-None.is (emptied g.K.Kind.kind (end c.args.side) c.args.arena.now c.args.level c.args.middle c.requires.middle (listed c.args.far) c.requires.far step c.pop-below.ensures (c.args.middle.levels + 1) (omega arith) c.refill.ensures)
