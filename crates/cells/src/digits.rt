@@ -77,7 +77,7 @@ impl Digit {
     pub fn split_last(self) -> (Option<Digit>, u32)
         ensures { listed self ≡ listed_some result.0 ++ (result.1 ∷ []) }
     {
-        let last = self.at[(self.count - 1) as usize];
+        let last = self.at[usize::from(self.count - 1)];
         if self.count == 1 {
             return (None, last);
         }
@@ -94,7 +94,7 @@ impl Digit {
         ensures { listed result ≡ slice_set (listed self) i finger }
     {
         let mut at = self.at;
-        at[i as usize] = finger;
+        at[usize::from(i)] = finger;
         Digit {
             count: self.count,
             at,

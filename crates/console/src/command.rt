@@ -80,7 +80,7 @@ impl fmt::Display for Verb {
 }
 
 impl Verb {
-    // What it does.
+    // What it does: a second text, since `Display` is the command as it is typed.
     pub(crate) fn purpose(self) -> &'static str {
         match self {
             Verb::Help => "lists the commands",

@@ -13,6 +13,7 @@ pub(crate) fn print_file<'a>(rt: &HostRuntime, name: &'a str) -> Result<(), Stop
     Ok(())
 }
 
+// A loop: each byte is printed with `?`, which no chain says shorter.
 fn print_row(rt: &HostRuntime, offset: usize, row: &[u8]) -> io::Result<()> {
     print!(rt; "{offset:>6} ")?;
     for byte in row {

@@ -63,7 +63,7 @@ fn parse(line: &str) -> Result<Target, Slip>
     }
 }
 
-// The first number that came before, if there is one.
+// The first number that came before, if there is one. By slices: a set would ask for memory only to word a refusal.
 pub(crate) fn repeated(targets: &[Target]) -> Option<u16> {
     for (i, target) in targets.iter().enumerate() {
         let number = target.number;

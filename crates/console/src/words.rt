@@ -26,6 +26,7 @@ impl fmt::Display for Shown<'_> {
     }
 }
 
+// A loop: each byte is written with `?`, which no chain says shorter.
 fn escape<W: fmt::Write>(bytes: &[u8], f: &mut fmt::Formatter<W>) -> fmt::Result {
     for byte in bytes {
         match *byte {

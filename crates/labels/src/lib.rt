@@ -85,7 +85,7 @@ fn fill(targets: &[Target], places: &mut [Label])
     }
 }
 
-/// A target with its position.
+/// A target with its position. (A `From` of the pair would be longer, and not say which number is the position.)
 fn at_position(position: usize, target: Target) -> Label
     ensures { result ≡ label position target }
 {

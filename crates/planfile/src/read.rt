@@ -68,7 +68,7 @@ fn read_end(value: &[u8]) -> Result<Field<'_>, Cause>
     }
 }
 
-/// What a field with this tag and value says, or what is wrong with it.
+/// What a field with this tag and value says, or what is wrong with it. The tags are a closed list, so a `match`.
 fn read_field(tag: u8, value: &[u8]) -> Result<Field<'_>, Cause>
     ensures { told result ≡ meaning tag value.now }
 {
