@@ -54,6 +54,7 @@ module _ {I T : Type 0} where
       let rest = kept_chain h (free.count - 1) (link h free.first) free.first c hd.apart hd.rest in
       let less = fewer h free.first c hd.within hd.free used in (
         record {
+          was = hd.free;
           grown = record { extends = extends_set h free.first c hd.free; spent = omega (arith, less) };
           holds = ap (λ (x : Cell I T). x.body) (get_or-set_same h free.first c blank hd.within);
         },

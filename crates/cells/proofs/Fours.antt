@@ -39,6 +39,17 @@ first_last (suc (suc (suc zero))) at h l = refl
 first_last (suc (suc (suc (suc zero)))) at h l = refl
 first_last (suc (suc (suc (suc (suc n))))) at h l = absurd (omega arith)
 
+pub first_at : (at : List ℕ) (i n : ℕ) → i < n → n ≤ 4 → get_or at i 0 ≡ get_or (front_of n at) i 0
+first_at at i zero h l = absurd (omega arith)
+first_at at zero (suc n) h l = refl
+first_at at (suc i) (suc zero) h l = absurd (omega arith)
+first_at at (suc zero) (suc (suc n)) h l = refl
+first_at at (suc (suc i)) (suc (suc zero)) h l = absurd (omega arith)
+first_at at (suc (suc zero)) (suc (suc (suc n))) h l = refl
+first_at at (suc (suc (suc i))) (suc (suc (suc zero))) h l = absurd (omega arith)
+first_at at (suc (suc (suc zero))) (suc (suc (suc (suc n)))) h l = refl
+first_at at (suc (suc (suc (suc i)))) (suc (suc (suc (suc n)))) h l = absurd (omega arith)
+
 pub listed_length : (d : Digit) → length (listed d) ≡ d.count
 listed_length d = first_length d.count _ _ _ _ d.filled.1
 

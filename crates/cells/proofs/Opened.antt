@@ -11,7 +11,7 @@ use Rattle.model.specs.Append.{onto}
 use Rattle.cells.proofs.Frames.{branch_parts}
 use Rattle.cells.proofs.Turned.{nodes_onto}
 use Rattle.model.specs.Forms.{FormedNode, Each, Formed}
-use Rattle.cells.specs.Cells.{in_order, body, leaf_of, node_from, branch_of, node, nodes, level_of, tree, rooted}
+use Rattle.cells.specs.Cells.{in_order, body, is_free, leaf_of, node_from, branch_of, node, nodes, level_of, tree, rooted}
 use Rattle.cells.specs.Fingers.{held, listed}
 use Rattle.cells.specs.Made.{Weighed, SeenDeep}
 use Rattle.cells.specs.declared.cell.Cell.{Cell}
@@ -93,6 +93,32 @@ module _ {I T Q : Type 0} (q : Algebra I T Q) (h : List (Cell I T)) (k p : ℕ) 
       go (Single g) f v = v
       go (Deep n g m o) f v = v
 
+-- what is formed stands on cells
+module _ {I T : Type 0} where
+  within_used : (h : List (Cell I T)) (p : ℕ) → is_free (body h p) ≡ false → p < length h
+  within_used [] p e = let z : ◌≡◌ {A = ℕ} 0 1 = cc in absurd (omega arith)
+  within_used (c ∷ h) zero e = omega arith
+  within_used (c ∷ h) (suc p) e = let l = within_used h p e in omega arith
+
+  used_leaf : (b : Body I T) → FormedNode 0 (leaf_of b) → is_free b ≡ false
+  used_leaf Free v = elim v [ ]
+  used_leaf (Item i) v = refl
+  used_leaf (Branch w f) v = elim v [ ]
+  used_leaf (Single f) v = elim v [ ]
+  used_leaf (Deep w f m b) v = elim v [ ]
+
+  used_branch : (k : ℕ) (below : ℕ → Node I T) (b : Body I T) → FormedNode (suc k) (branch_of below b) → is_free b ≡ false
+  used_branch k below Free v = elim v [ ]
+  used_branch k below (Item i) v = refl
+  used_branch k below (Branch w f) v = refl
+  used_branch k below (Single f) v = elim v [ ]
+  used_branch k below (Deep w f m b) v = elim v [ ]
+
+  pub node_within : (h : List (Cell I T)) (k p : ℕ) → FormedNode k (node h k p) → p < length h
+  unfolding node
+  node_within h zero p v = within_used h p (used_leaf (body h p) v)
+  node_within h (suc k) p v = within_used h p (used_branch k (node h k) (body h p) v)
+
 -- what a node is made of
 module _ {I T : Type 0} (h : List (Cell I T)) (k p : ℕ) (v : FormedNode (suc k) (node h (suc k) p)) where
   -- a node that is no item
@@ -160,6 +186,13 @@ module _ {I T : Type 0} where
   Level (Single f) = Unit {0}
   Level (Deep w f m b) = Unit {0}
 
+  level_used : (b : Body I T) → Level b → is_free b ≡ false
+  level_used Free v = elim v [ ]
+  level_used (Item i) v = elim v [ ]
+  level_used (Branch w f) v = elim v [ ]
+  level_used (Single f) v = refl
+  level_used (Deep w f m b) v = refl
+
   formed_level : (d k : ℕ) (here : ℕ → Node I T) (below : ℕ → Tree I T) (b : Body I T) → Formed k (level_of d here below b) → Level b
   formed_level d k here below Free v = v
   formed_level d k here below (Item i) v = v
@@ -178,6 +211,9 @@ module _ {I T : Type 0} where
 module _ {I T : Type 0} (h : List (Cell I T)) (k : ℕ) (root : Root) (some : 0 < root.levels) (w : Formed k (rooted h k root)) where
   level_is : Level (body h root.at)
   level_is = formed_level (root.levels - 1) k (node h k) (tree h (root.levels - 1) (suc k)) (body h root.at) (subst (Formed k) (tree_opened h root.levels k root.at some) w)
+
+  pub tree_within : root.at < length h
+  tree_within = within_used h root.at (level_used (body h root.at) level_is)
 
   pub tree_single : (f : ℕ) → Single f ≡ body h root.at → (rooted h k root ≡ single (node h k f)) × (root.levels ≡ 1)
   tree_single f e =

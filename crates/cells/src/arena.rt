@@ -9,7 +9,8 @@ use super::cell::{Body, Cell, FreeList};
 use std::marker::Model;
 
 /// The cells that are lent, and the list of the free ones among them. A contract sees the cells; that the list has all
-/// the free cells, each once, holds of every arena.
+/// the free cells, each once, holds of every arena. It is generic in the item and the total, and not in the kind: what a
+/// contract sees of a type cannot cite what a kind names.
 #[derive(Drop)]
 pub struct Arena<'a, I, T> {
     cells: &'a mut [Cell<I, T>],
@@ -39,24 +40,30 @@ impl<'a, I: Copy, T: Copy> Arena<'a, I, T> {
         }
     }
 
-    /// What a cell holds; past the last, nothing.
+    /// The lent cells as an arena, with the list of the free ones among them.
+    pub fn of(cells: &'a mut [Cell<I, T>], free: FreeList) -> Arena<'a, I, T>
+        requires { Sound cells.old free }
+        ensures { result ≡ cells.old }
+    {
+        Arena { cells, free }
+    }
+
+    /// What a cell holds.
     pub fn body(&self, at: u32) -> Body<I, T>
+        requires { at < length self.now }
         ensures { result ≡ body_of self.now at }
     {
-        if at as usize >= self.cells.len() {
-            return Body::Free;
-        }
-        self.cells[at as usize].body
+        body_at(self.cells, at)
     }
 
     /// How many cells are free.
-    pub fn free(&self) -> u32
+    pub fn free_count(&self) -> u32
         ensures { result ≡ free_cells self.now }
     {
         self.free.count
     }
 
-    /// Has a free cell hold something.
+    /// Takes a free cell for a body, and gives the cell.
     pub fn take(&mut self, body: Body<I, T>) -> u32
         requires used { is_free body ≡ false }
         requires some { 0 < free_cells self.old }
@@ -64,6 +71,14 @@ impl<'a, I: Copy, T: Copy> Arena<'a, I, T> {
     {
         take_cell(self.cells, &mut self.free, body)
     }
+}
+
+/// What a cell holds.
+fn body_at<I: Copy, T: Copy>(cells: &[Cell<I, T>], at: u32) -> Body<I, T>
+    requires { at < length cells.now }
+    ensures { result ≡ body_of cells.now at }
+{
+    cells[at as usize].body
 }
 
 /// Frees all cells, each linked to the next.

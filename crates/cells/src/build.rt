@@ -17,7 +17,8 @@ use super::read::{toward, weigh, weigh_run, weigh_tree};
 use super::side::Side;
 use kinds::Kind;
 
-// Two or three fingers as one node.
+/// Two or three fingers as one node. They are not summed as the fingers of a digit are, to which nothing is joined at the
+/// end: nothing is neutral to fair totals alone.
 pub fn make_node<K: Kind>(arena: &mut Arena<'_, K::Item, K::Total>, level: u32, parts: Digit) -> u32
     requires room { 0 < free_cells arena.old }
     requires some { 2 ≤ parts.count }
@@ -41,7 +42,7 @@ pub fn make_node<K: Kind>(arena: &mut Arena<'_, K::Item, K::Total>, level: u32, 
     })
 }
 
-// A level of one finger.
+/// A level of one finger.
 pub fn make_single<K: Kind>(
     arena: &mut Arena<'_, K::Item, K::Total>,
     level: u32,
@@ -55,7 +56,8 @@ pub fn make_single<K: Kind>(
     Root { levels: 1, at }
 }
 
-// A level with its fingers at a side, and those at the other.
+/// A level with its fingers at a side, and those at the other. They and the middle go side by side, here and above: a struct
+/// of the three would be made at each call and taken apart in each body.
 pub fn make_deep<K: Kind>(
     arena: &mut Arena<'_, K::Item, K::Total>,
     level: u32,

@@ -1,15 +1,15 @@
 // Cells, and what they hold.
 use super::fingers::Fingers;
 
-// A cell of a store. The link is the next free cell, where this one is free; it stands beside the body, since who reads
-// what a cell holds has nothing to do with the list of the free ones.
+/// A cell of a store. The link is the next free cell, where this one is free; it stands beside the body, since who reads
+/// what a cell holds has nothing to do with the list of the free ones.
 #[derive(Clone, Copy)]
 pub struct Cell<I, T> {
     pub link: u32,
     pub body: Body<I, T>,
 }
 
-// What a cell holds: nothing, an item, a node of two or three nodes, or one level of a tree.
+/// What a cell holds: nothing, an item, a node of two or three nodes, or one level of a tree.
 #[derive(Clone, Copy)]
 pub enum Body<I, T> {
     Free,
@@ -31,25 +31,25 @@ pub enum Body<I, T> {
     },
 }
 
-// The free cells: how many there are, and the first of their chain.
+/// The free cells: how many there are, and the first of their chain.
 #[derive(Clone, Copy)]
 pub struct FreeList {
     pub first: u32,
     pub count: u32,
 }
 
-// A tree: how many levels it has, and the cell of the first. A tree of no levels is empty, which an Option would say a
-// second time.
+/// A tree: how many levels it has, and the cell of the first. A tree of no levels is empty, which an Option would say a
+/// second time.
 #[derive(Clone, Copy)]
 pub struct Root {
     pub levels: u8,
     pub at: u32,
 }
 
-// The empty tree, which stands on no cell.
+/// The empty tree, which stands on no cell.
 pub const EMPTY: Root = Root { levels: 0, at: 0 };
 
-// What a node, some fingers or a tree come to.
+/// What a node, some fingers or a tree come to. Unlike the count of a tally this number of items is exact.
 #[derive(Clone, Copy)]
 pub struct Weight<T> {
     pub total: T,

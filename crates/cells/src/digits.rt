@@ -1,12 +1,12 @@
 // What is done with the fingers at one end of a level.
-ghost use Rattle.std.specs.Prelude.{◌≡◌, ℕ, ◌+◌, ◌-◌, ◌<◌, ◌≤◌, List, [], ◌∷◌, ◌++◌, length, slice_set};
+ghost use Rattle.std.specs.Prelude.{◌≡◌, ℕ, ◌+◌, ◌-◌, ◌<◌, ◌≤◌, List, [], ◌∷◌, ◌++◌, length, slice_index, slice_set};
 ghost use Rattle.cells.specs.Fingers.{listed, listed_some};
 ghost use Rattle.cells.specs.Conversions.{IsDigit, HeldAs};
 ghost use Rattle.model.specs.Append.{onto};
 
 use super::fingers::{Digit, Fingers};
 
-// Fingers that are none, or more than four.
+/// Fingers that are none, or more than four.
 #[derive(Clone, Copy)]
 pub struct NoDigit;
 
@@ -35,7 +35,7 @@ impl From<Digit> for Fingers {
 }
 
 impl Digit {
-    // So many fingers, from one to four.
+    /// So many fingers, from one to four.
     pub fn of<const N: usize>(fingers: [u32; N]) -> Digit
         requires some { 1 ≤ N }
         requires few { N ≤ 4 }
@@ -46,7 +46,7 @@ impl Digit {
         Digit { count: N as u8, at }
     }
 
-    // One finger more, before the others.
+    /// One finger more, before the others.
     pub fn prepend(self, finger: u32) -> Digit
         requires { length (listed self) < 4 }
         ensures { listed result ≡ finger ∷ listed self }
@@ -58,7 +58,15 @@ impl Digit {
         }
     }
 
-    // The first finger, and those after it.
+    /// One of the fingers.
+    pub fn finger(self, i: u8) -> u32
+        requires { i < length (listed self) }
+        ensures { result ≡ slice_index (listed self) i }
+    {
+        self.at[usize::from(i)]
+    }
+
+    /// The first finger, and those after it.
     pub fn split_first(self) -> (u32, Option<Digit>)
         ensures { listed self ≡ result.0 ∷ listed_some result.1 }
     {
@@ -73,7 +81,7 @@ impl Digit {
         (a, Some(rest))
     }
 
-    // The last finger, and those before it.
+    /// The last finger, and those before it.
     pub fn split_last(self) -> (Option<Digit>, u32)
         ensures { listed self ≡ listed_some result.0 ++ (result.1 ∷ []) }
     {
@@ -88,7 +96,7 @@ impl Digit {
         (Some(init), last)
     }
 
-    // The same fingers, but for one.
+    /// The same fingers, but for one.
     pub fn with_finger(self, i: u8, finger: u32) -> Digit
         requires { i < length (listed self) }
         ensures { listed result ≡ slice_set (listed self) i finger }
@@ -101,7 +109,7 @@ impl Digit {
         }
     }
 
-    // The same fingers from the other end.
+    /// The same fingers from the other end.
     pub fn reversed(self) -> Digit
         ensures { listed result ≡ onto (listed self) [] }
     {
@@ -119,7 +127,8 @@ impl Digit {
     }
 }
 
-// How many fingers there are.
+/// How many fingers there are. None to four are an Option of a digit: a type of their own would have to be told from a digit
+/// wherever there is at least one.
 pub fn count_of(run: Option<Digit>) -> u8
     ensures is { result ≡ length (listed_some run) }
     ensures few { result ≤ 4 }
@@ -127,7 +136,7 @@ pub fn count_of(run: Option<Digit>) -> u8
     run.map_or(0, |digit| digit.count)
 }
 
-// One finger more, before the others.
+/// One finger more, before the others.
 pub fn prepend_some(finger: u32, run: Option<Digit>) -> Digit
     requires { length (listed_some run) < 4 }
     ensures { listed result ≡ finger ∷ listed_some run }
@@ -138,7 +147,7 @@ pub fn prepend_some(finger: u32, run: Option<Digit>) -> Digit
     }
 }
 
-// The same fingers from the other end.
+/// The same fingers from the other end.
 pub fn reversed_some(run: Option<Digit>) -> Option<Digit>
     ensures { listed_some result ≡ onto (listed_some run) [] }
 {

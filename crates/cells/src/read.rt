@@ -16,7 +16,7 @@ use super::side::Side;
 use super::view::View;
 use kinds::Kind;
 
-// What a node comes to.
+/// What a node comes to.
 pub fn weigh<K: Kind>(arena: &Arena<'_, K::Item, K::Total>, level: u32, at: u32) -> Weight<K::Total>
     requires { FormedNode level (node arena.now level at) }
     ensures { Weighed (sum_node K.Kind.kind (node arena.now level at)) (count_node (node arena.now level at)) result }
@@ -31,7 +31,7 @@ pub fn weigh<K: Kind>(arena: &Arena<'_, K::Item, K::Total>, level: u32, at: u32)
     }
 }
 
-// Two weights as one, of which the first is the nearer to the side.
+/// Two weights as one, of which the first is the nearer to the side.
 pub fn toward<K: Kind>(
     side: Side,
     near: Weight<K::Total>,
@@ -47,7 +47,7 @@ pub fn toward<K: Kind>(
     }
 }
 
-// What nothing comes to.
+/// What nothing comes to.
 pub fn weigh_nothing<K: Kind>() -> Weight<K::Total>
     ensures { Weighed K.Kind.kind.nothing 0 result }
 {
@@ -57,7 +57,7 @@ pub fn weigh_nothing<K: Kind>() -> Weight<K::Total>
     }
 }
 
-// What fingers at a side come to.
+/// What fingers at a side come to.
 pub fn weigh_run<K: Kind>(
     arena: &Arena<'_, K::Item, K::Total>,
     level: u32,
@@ -77,7 +77,7 @@ pub fn weigh_run<K: Kind>(
     toward::<K>(side, first, others)
 }
 
-// What a tree comes to.
+/// What a tree comes to.
 pub fn weigh_tree<K: Kind>(
     arena: &Arena<'_, K::Item, K::Total>,
     level: u32,
@@ -102,7 +102,7 @@ pub fn weigh_tree<K: Kind>(
 }
 
 impl<I: Copy, T: Copy> Arena<'_, I, T> {
-    // The first level of a tree, as it is seen from a side.
+    /// The first level of a tree, as it is seen from a side.
     pub fn view(&self, level: u32, side: Side, root: Root) -> View
         requires { Formed level (rooted self.now level root) }
         ensures { Seen self.now level (end side) root result }
@@ -131,7 +131,7 @@ impl<I: Copy, T: Copy> Arena<'_, I, T> {
         }
     }
 
-    // The parts of a node, listed from the side.
+    /// The parts of a node, listed from the side.
     pub fn parts(&self, level: u32, side: Side, at: u32) -> Digit
         requires { FormedNode (suc level) (node self.now (suc level) at) }
         ensures { nodes self.now level (listed result) ≡ fingers (end side) (node self.now (suc level) at) }
@@ -148,7 +148,7 @@ impl<I: Copy, T: Copy> Arena<'_, I, T> {
         }
     }
 
-    // The item that a node of depth 0 is.
+    /// The item that a node of depth 0 is.
     pub fn item(&self, at: u32) -> I
         requires { FormedNode 0 (node self.now 0 at) }
         ensures { node self.now 0 at ≡ leaf result }

@@ -3,7 +3,7 @@ ghost use Rattle.std.specs.Prelude.{◌≡◌};
 ghost use Rattle.model.specs.Ends.{other as across};
 ghost use Rattle.cells.specs.Cells.{end, in_order};
 
-// An end of a tree.
+/// An end of a tree.
 #[derive(Clone, Copy)]
 pub enum Side {
     Front,
@@ -11,7 +11,7 @@ pub enum Side {
 }
 
 impl Side {
-    // The other end.
+    /// The other end.
     pub fn opposite(self) -> Side
         ensures { end result ≡ across (end self) }
     {
@@ -21,7 +21,7 @@ impl Side {
         }
     }
 
-    // What is nearer to this end and what is farther from it, from left to right.
+    /// What is nearer to this end and what is farther from it, from left to right.
     pub fn ordered<A>(self, near: A, far: A) -> (A, A)
         ensures { result ≡ in_order (end self) near far }
     {

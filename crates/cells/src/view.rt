@@ -1,7 +1,7 @@
 use super::cell::Root;
 use super::fingers::Digit;
 
-// The first level of a tree, as it is seen from a side.
+/// The first level of a tree, as it is seen from a side.
 #[derive(Clone, Copy)]
 pub enum View {
     Empty,

@@ -13,7 +13,7 @@ use cells::fingers::Digit;
 use cells::read::weigh;
 use kinds::Kind;
 
-// What stands before a finger, that finger, a position among its items, and what stands after it.
+/// What stands before a finger, that finger, a position among its items, and what stands after it.
 #[derive(Clone, Copy)]
 pub struct Split<A> {
     pub before: A,
@@ -22,8 +22,9 @@ pub struct Split<A> {
     pub after: A,
 }
 
-// Fingers listed from the left, cut at the one that has the position. `passed` are those before them; they and the
-// fingers before the cut are listed from the right.
+/// Fingers listed from the left, cut at the one that has the position. `passed` are those before them; they and the
+/// fingers before the cut are listed from the right. (A seek walks along fingers too, but stops by a question: one walk for
+/// both would take a closure for the stop and promise what it promises.)
 pub fn cut_digit<K: Kind>(
     arena: &Arena<'_, K::Item, K::Total>,
     level: u32,

@@ -14,7 +14,7 @@ use cells::side::Side;
 use cells::view::View;
 use kinds::Kind;
 
-// The item at a position of a node.
+/// The item at a position of a node.
 #[cycle(item)]
 pub fn node_item<K: Kind>(
     arena: &Arena<'_, K::Item, K::Total>,
@@ -49,7 +49,7 @@ fn item_in<K: Kind>(
     node_item::<K>(arena, level, cut.finger, cut.offset)
 }
 
-// The item at a position of a tree.
+/// The item at a position of a tree.
 pub fn item_at<K: Kind>(
     arena: &Arena<'_, K::Item, K::Total>,
     level: u32,

@@ -13,7 +13,7 @@ use cells::read::{weigh_run, weigh_tree};
 use cells::side::Side;
 use kinds::Kind;
 
-// A part of a level, and a position in it, counted from the left.
+/// A part of a level, and a position in it, counted from the left.
 #[derive(Clone, Copy)]
 pub enum Part {
     Front(u32),
@@ -21,7 +21,7 @@ pub enum Part {
     Back(u32),
 }
 
-// The part that has the position, of a level with this front and middle.
+/// The part that has the position, of a level with this front and middle.
 pub fn part_at<K: Kind>(
     arena: &Arena<'_, K::Item, K::Total>,
     level: u32,

@@ -28,7 +28,7 @@ pub struct Popped<A> {
     pub rest: Root,
 }
 
-// Fingers listed from the side, as a tree.
+/// Fingers listed from the side, as a tree.
 pub fn tree_from<K: Kind>(
     arena: &mut Arena<'_, K::Item, K::Total>,
     level: u32,
@@ -48,7 +48,7 @@ pub fn tree_from<K: Kind>(
     }
 }
 
-// A level whose fingers at the side are gone, where `below` came of a pop of its middle.
+/// A level whose fingers at the side are gone, where `below` came of a pop of its middle.
 pub fn refill<K: Kind>(
     arena: &mut Arena<'_, K::Item, K::Total>,
     level: u32,
@@ -72,7 +72,7 @@ pub fn refill<K: Kind>(
     }
 }
 
-// The finger at a side, and the tree without it, if there is one.
+/// The finger at a side, and the tree without it, if there is one.
 #[cycle(popping)]
 pub fn pop<K: Kind>(
     arena: &mut Arena<'_, K::Item, K::Total>,
@@ -103,7 +103,7 @@ pub fn pop<K: Kind>(
     }
 }
 
-// A level whose fingers at the side may be gone.
+/// A level whose fingers at the side may be gone.
 #[cycle(popping)]
 pub fn trim<K: Kind>(
     arena: &mut Arena<'_, K::Item, K::Total>,

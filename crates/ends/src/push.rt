@@ -37,7 +37,7 @@ fn three_at<K: Kind>(
     make_node::<K>(arena, level, Digit::of([left, middle, right]))
 }
 
-// The tree with one finger more at a side.
+/// The tree with one finger more at a side.
 pub fn push<K: Kind>(
     arena: &mut Arena<'_, K::Item, K::Total>,
     level: u32,

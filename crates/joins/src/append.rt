@@ -22,7 +22,7 @@ use cells::view::View;
 use ends::push::push;
 use kinds::Kind;
 
-// Fingers listed from the side, all pushed.
+/// Fingers listed from the side, all pushed.
 #[cycle(pushing)]
 pub fn push_run<K: Kind>(
     arena: &mut Arena<'_, K::Item, K::Total>,
@@ -47,7 +47,7 @@ pub fn push_run<K: Kind>(
     }
 }
 
-// A finger and then others, listed from the side, all pushed.
+/// A finger and then others, listed from the side, all pushed.
 #[cycle(pushing)]
 pub fn push_after<K: Kind>(
     arena: &mut Arena<'_, K::Item, K::Total>,
@@ -68,7 +68,7 @@ pub fn push_after<K: Kind>(
     push::<K>(arena, level, side, more, finger)
 }
 
-// Two trees as one, with loose fingers between them, listed from the left.
+/// Two trees as one, with loose fingers between them, listed from the left.
 pub fn append<K: Kind>(
     arena: &mut Arena<'_, K::Item, K::Total>,
     level: u32,

@@ -15,7 +15,7 @@ use cells::build::make_node;
 use cells::fingers::Digit;
 use kinds::Kind;
 
-// The fingers of a row, two or more, in threes and twos.
+/// The fingers of a row, two or more, in threes and twos.
 pub fn group_row<K: Kind>(
     arena: &mut Arena<'_, K::Item, K::Total>,
     level: u32,

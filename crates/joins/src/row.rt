@@ -6,7 +6,7 @@ ghost use Rattle.joins.specs.Rows.{in_row};
 use cells::digits::count_of;
 use cells::fingers::Digit;
 
-// Up to twelve fingers.
+/// Up to twelve fingers, in the three parts that a joining has.
 #[derive(Clone, Copy)]
 pub struct Row {
     pub first: Option<Digit>,
@@ -15,7 +15,7 @@ pub struct Row {
 }
 
 impl Row {
-    // How many fingers are left.
+    /// How many fingers are left.
     pub fn width(self) -> u8
         ensures is { result ≡ length (in_row self) }
         ensures few { result ≤ 12 }
@@ -23,7 +23,7 @@ impl Row {
         count_of(self.first) + (count_of(self.second) + count_of(self.third))
     }
 
-    // Takes the first finger.
+    /// Takes the first finger.
     pub fn take_first(&mut self) -> u32
         requires { 1 ≤ length (in_row self.old) }
         ensures { in_row self.old ≡ result ∷ in_row self.new }

@@ -41,6 +41,7 @@ pub fn pop<K: Kind>(
     ensures given { Given arena.old arena.new root.levels (end side) (list_at arena.old root) result }
     ensures right { Right K.Kind.kind arena.old root → GivenRight K.Kind.kind arena.new result }
 {
+    // Not by `?` alone: that the cells stay as they are is known of an empty list, and not of every pop that gives nothing.
     if root.levels == 0 {
         return None;
     }

@@ -35,7 +35,7 @@ fn pushed(rt: &impl Abort, arena: &mut Lent<'_>, side: Side, item: Target, root:
 {
     let size = length::<Kind>(arena, root);
     assert!(rt; size < 65535);
-    assert!(rt; 2 * levels_for(size + 1) as u32 <= arena.free());
+    assert!(rt; 2 * levels_for(size + 1) as u32 <= arena.free_count());
     push::<Kind>(arena, side, item, root)
 }
 
@@ -46,7 +46,7 @@ fn popped(rt: &impl Abort, arena: &mut Lent<'_>, side: Side, root: Root) -> Popp
     ensures stays { (old : RootOf) → Whole arena.old old → Whole arena.new old }
 {
     assert!(rt; length::<Kind>(arena, root) < 65535);
-    assert!(rt; root.levels as u32 <= arena.free());
+    assert!(rt; root.levels as u32 <= arena.free_count());
     let Some(popped) = pop::<Kind>(arena, side, root) else {
         panic!(rt; "nothing to take");
     };
@@ -60,7 +60,7 @@ fn replaced(rt: &impl Abort, arena: &mut Lent<'_>, root: Root, position: u32, it
     ensures stays { (old : RootOf) → Whole arena.old old → Whole arena.new old }
 {
     assert!(rt; position < length::<Kind>(arena, root));
-    assert!(rt; 2 * root.levels as u32 <= arena.free());
+    assert!(rt; 2 * root.levels as u32 <= arena.free_count());
     replace::<Kind>(arena, root, position, item)
 }
 
@@ -111,7 +111,7 @@ fn parted(rt: &impl Abort, arena: &mut Lent<'_>, root: Root, position: u32) -> H
 {
     let levels = root.levels as u32;
     assert!(rt; position < length::<Kind>(arena, root));
-    assert!(rt; levels * levels + 3 * levels <= arena.free());
+    assert!(rt; levels * levels + 3 * levels <= arena.free_count());
     split_at::<Kind>(arena, root, position)
 }
 
@@ -125,7 +125,7 @@ fn joined(rt: &impl Abort, arena: &mut Lent<'_>, left: Root, right: Root) -> Roo
     let first = length::<Kind>(arena, left);
     let second = length::<Kind>(arena, right);
     assert!(rt; first < 65535 && second < 65535);
-    assert!(rt; 10 * levels_for(first + second) as u32 <= arena.free());
+    assert!(rt; 10 * levels_for(first + second) as u32 <= arena.free_count());
     join::<Kind>(arena, left, right)
 }
 

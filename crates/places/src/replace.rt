@@ -20,7 +20,7 @@ use cuts::cut::cut_digit;
 use cuts::part::{Part, part_at};
 use kinds::Kind;
 
-// A node with another item at a position.
+/// A node with another item at a position.
 #[cycle(node)]
 pub fn replace_node<K: Kind>(
     arena: &mut Arena<'_, K::Item, K::Total>,
@@ -43,7 +43,7 @@ pub fn replace_node<K: Kind>(
     make_node::<K>(arena, level - 1, changed)
 }
 
-// Fingers listed from the left, with another item at a position.
+/// Fingers listed from the left, with another item at a position.
 #[cycle(node)]
 pub fn replace_in<K: Kind>(
     arena: &mut Arena<'_, K::Item, K::Total>,
@@ -63,7 +63,7 @@ pub fn replace_in<K: Kind>(
     digit.with_finger(count_of(cut.before), finger)
 }
 
-// A tree with another item at a position.
+/// A tree with another item at a position.
 pub fn replace<K: Kind>(
     arena: &mut Arena<'_, K::Item, K::Total>,
     level: u32,

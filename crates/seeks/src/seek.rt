@@ -13,14 +13,15 @@ use cells::cell::Root;
 use cells::read::{weigh_nothing, weigh_tree};
 use kinds::Kind;
 
-// The least position j such that the first j + 1 items meet a question, and what the first j come to.
+/// The least position j such that the first j + 1 items meet a question, and what the first j come to. It is no weight: a
+/// position is not a count.
 #[derive(Clone, Copy)]
 pub struct Found<T> {
     pub position: u32,
     pub before: T,
 }
 
-// The question is put to totals of at least one item.
+/// The question is put to totals of at least one item.
 pub fn seek<K: Kind>(
     arena: &Arena<'_, K::Item, K::Total>,
     question: K::Question,
@@ -46,7 +47,7 @@ pub fn seek<K: Kind>(
     })
 }
 
-// Items that measure alike give the same answer.
+/// Items that measure alike give the same answer.
 pub fn alike_sought<K: Kind>()
     ensures { AlikeSought K.Kind.kind }
 {}

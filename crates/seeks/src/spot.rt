@@ -14,15 +14,15 @@ use cells::side::Side;
 use cells::view::View;
 use kinds::Kind;
 
-// A finger, and what the items before it come to.
+/// A finger, and what the items before it come to.
 #[derive(Clone, Copy)]
 pub struct Spot<T> {
     pub finger: u32,
     pub passed: Weight<T>,
 }
 
-// The first finger by which the question is met, or the last, of fingers listed from the left; `passed` stands before
-// them.
+/// The first finger by which the question is met, or the last, of fingers listed from the left; `passed` stands before
+/// them.
 pub fn spot_digit<K: Kind>(
     arena: &Arena<'_, K::Item, K::Total>,
     level: u32,
@@ -48,7 +48,7 @@ pub fn spot_digit<K: Kind>(
     }
 }
 
-// The finger of a level in which the question is first met, or the last; the tree is not empty.
+/// The finger of a level in which the question is first met, or the last; the tree is not empty.
 pub fn locate<K: Kind>(
     arena: &Arena<'_, K::Item, K::Total>,
     level: u32,

@@ -15,7 +15,7 @@ use cells::side::Side;
 use ends::pop::tree_from;
 use kinds::Kind;
 
-// Fingers listed from the side, or none, as a tree.
+/// Fingers listed from the side, or none, as a tree.
 pub fn tree_some<K: Kind>(
     arena: &mut Arena<'_, K::Item, K::Total>,
     level: u32,

@@ -1,7 +1,7 @@
 // A tree in two, at the item at a position.
 ghost use Rattle.std.specs.Prelude.{suc, ◌+◌, ◌*◌, ◌^◌, ◌<◌, ◌≤◌};
 ghost use Rattle.model.specs.Tree.{count_node, count_run, count};
-ghost use Rattle.model.specs.Split.{in_middle};
+ghost use Rattle.model.specs.Split.{in_node, in_middle};
 ghost use Rattle.model.specs.Split.{split as split_of};
 ghost use Rattle.model.specs.Forms.{FormedNode, Each, Formed};
 ghost use Rattle.cells.specs.Cells.{end, node, nodes, rooted};
@@ -21,7 +21,7 @@ use cuts::part::{Part, part_at};
 use ends::pop::trim;
 use kinds::Kind;
 
-// The halves of a level that is cut at a side. `far` are the fingers at the other.
+/// The halves of a level that is cut at a side. `far` are the fingers at the other.
 pub fn halve_at<K: Kind>(
     arena: &mut Arena<'_, K::Item, K::Total>,
     level: u32,
@@ -52,7 +52,38 @@ pub fn halve_at<K: Kind>(
     }
 }
 
-// The halves of a level whose middle is cut already: `halves` are the middle's.
+/// The halves of a level that is cut in its middle: `halves` are the middle's, and the cut is of the node between them.
+pub fn halve_middle<K: Kind>(
+    arena: &mut Arena<'_, K::Item, K::Total>,
+    level: u32,
+    front: Digit,
+    halves: Split<Root>,
+    cut: Split<Option<Digit>>,
+    back: Digit,
+) -> Split<Root>
+    requires room { halves.before.levels + halves.after.levels + 1 < free_cells arena.old }
+    requires shallow { level + 1 + (halves.before.levels + halves.after.levels) < 64 }
+    requires before { Each level (nodes arena.old level (listed_some cut.before)) }
+    requires here { FormedNode level (node arena.old level cut.finger) }
+    requires after { Each level (nodes arena.old level (listed_some cut.after)) }
+    requires front { Each level (nodes arena.old level (listed front)) }
+    requires left { Formed (suc level) (rooted arena.old (suc level) halves.before) }
+    requires right { Formed (suc level) (rooted arena.old (suc level) halves.after) }
+    requires back { Each level (nodes arena.old level (listed back)) }
+    requires fits { (count_run (nodes arena.old level (listed_some cut.before)) + (count (rooted arena.old (suc level) halves.before) + count_run (nodes arena.old level (listed front)))) + (count_run (nodes arena.old level (listed_some cut.after)) + (count (rooted arena.old (suc level) halves.after) + count_run (nodes arena.old level (listed back)))) < 2 ^ 32 }
+    ensures { MadeParts arena.old arena.new (halves.before.levels + halves.after.levels + 2) level result (in_node K.Kind.kind (nodes arena.old level (listed front)) (rooted arena.old (suc level) halves.before) (rooted arena.old (suc level) halves.after) (nodes arena.old level (listed back)) (cut_at arena.old level cut)) }
+{
+    let before = trim::<K>(arena, level, Side::Back, cut.before, halves.before, front);
+    let after = trim::<K>(arena, level, Side::Front, cut.after, halves.after, back);
+    Split {
+        before,
+        finger: cut.finger,
+        offset: cut.offset,
+        after,
+    }
+}
+
+/// The halves of a level whose middle is cut already: `halves` are the middle's.
 pub fn halve_below<K: Kind>(
     arena: &mut Arena<'_, K::Item, K::Total>,
     level: u32,
@@ -73,17 +104,10 @@ pub fn halve_below<K: Kind>(
 {
     let parts = arena.parts(level, Side::Front, halves.finger);
     let cut = cut_digit::<K>(arena, level, halves.offset, None, parts);
-    let before = trim::<K>(arena, level, Side::Back, cut.before, halves.before, front);
-    let after = trim::<K>(arena, level, Side::Front, cut.after, halves.after, back);
-    Split {
-        before,
-        finger: cut.finger,
-        offset: cut.offset,
-        after,
-    }
+    halve_middle::<K>(arena, level, front, halves, cut, back)
 }
 
-// A tree in two, at the item at a position.
+/// A tree in two, at the item at a position.
 pub fn split<K: Kind>(
     arena: &mut Arena<'_, K::Item, K::Total>,
     level: u32,

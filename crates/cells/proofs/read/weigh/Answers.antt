@@ -1,6 +1,9 @@
 use Rattle.std.proofs.Common.{sym, ◌∙◌}
-use Rattle.cells.proofs.Opened.{node_weighs, node_other}
+use Rattle.cells.proofs.Opened.{node_within, node_weighs, node_other}
 use Rattle.cells.proofs.read.weigh.Goals as goal
+
+pub body-requires : goal.body-requires
+body-requires g c = node_within c.args.arena.now c.args.level c.args.at c.requires
 
 pub unreachable-requires : goal.unreachable-requires
 unreachable-requires g c = node_other g.K.Kind.kind c.args.arena.now c.args.level c.args.at c.requires _ c.body.ensures c.in_default.not-Item c.in_default.not-Node

@@ -2,8 +2,11 @@ use Rattle.std.proofs.Common.{sym, ap, ◌∙◌, subst, arith}
 use Rattle.model.specs.Measures.{sum}
 use Rattle.model.specs.Tree.{count}
 use Rattle.model.specs.Forms.{Formed}
-use Rattle.cells.proofs.Opened.{tree_none, tree_single, tree_deep, tree_other}
+use Rattle.cells.proofs.Opened.{tree_within, tree_none, tree_single, tree_deep, tree_other}
 use Rattle.cells.proofs.read.weigh_tree.Goals as goal
+
+pub body-requires : goal.body-requires
+body-requires g c = tree_within c.args.arena.now c.args.level c.args.root (omega arith) c.requires
 
 pub returns-then-root-eq0 : goal.returns-then-root-eq0
 returns-then-root-eq0 g c = let e = tree_none c.args.arena.now _ c.args.level c.args.root.at c.if-root-eq0.true in rw e c.weigh_nothing.ensures

@@ -1,7 +1,10 @@
-use Rattle.std.proofs.Common.{[], sym, ap, ◌∙◌}
+use Rattle.std.proofs.Common.{suc, [], sym, ap, ◌∙◌}
 use Rattle.model.specs.Append.{onto}
-use Rattle.cells.proofs.Opened.{no_item, some_parts, parts_front, parts_back}
+use Rattle.cells.proofs.Opened.{node_within, no_item, some_parts, parts_front, parts_back}
 use Rattle.cells.proofs.arena.Arena.parts.Goals as goal
+
+pub body-requires : goal.body-requires
+body-requires g c = node_within c.args.self.now (suc c.args.level) c.args.at c.requires
 
 pub unreachable-requires : goal.unreachable-requires
 unreachable-requires g c = no_item c.args.self.now c.args.level c.args.at c.requires _ c.body.ensures c.in_default.not-Node

@@ -1,7 +1,10 @@
 use Rattle.std.proofs.Common.{sym, ◌∙◌, arith}
 use Rattle.cells.specs.Cells.{end}
-use Rattle.cells.proofs.Opened.{tree_none, tree_single, tree_deep, tree_digits, tree_other, from_side}
+use Rattle.cells.proofs.Opened.{tree_within, tree_none, tree_single, tree_deep, tree_digits, tree_other, from_side}
 use Rattle.cells.proofs.arena.Arena.view.Goals as goal
+
+pub body-requires : goal.body-requires
+body-requires g c = tree_within c.args.self.now c.args.level c.args.root (omega arith) c.requires
 
 pub returns-then-root-eq0 : goal.returns-then-root-eq0
 returns-then-root-eq0 g c = (tree_none _ _ _ _ c.if-root-eq0.true, c.if-root-eq0.true)
