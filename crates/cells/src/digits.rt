@@ -113,13 +113,8 @@ impl Digit {
     pub fn reversed(self) -> Digit
         ensures { listed result ≡ onto (listed self) [] }
     {
-        let [a, b, c, d] = self.at;
-        let at = match self.count {
-            1 => [a, 0, 0, 0],
-            2 => [b, a, 0, 0],
-            3 => [c, b, a, 0],
-            _ => [d, c, b, a],
-        };
+        let mut at = self.at;
+        at[..usize::from(self.count)].reverse();
         Digit {
             count: self.count,
             at,
