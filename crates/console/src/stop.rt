@@ -30,7 +30,7 @@ pub enum Stop<'a> {
         line: u64,
         slip: Slip,
     },
-    /// A plan file is refused; `twice` is a number that two of its targets have.
+    /// A plan file is refused; `twice` is the number that two targets to be written have, which the fault does not tell.
     File {
         name: &'a str,
         fault: FileFault,
