@@ -23,12 +23,11 @@ pub(crate) fn read<'a>(rt: &HostRuntime, name: &'a str) -> Result<Vec<Target>, S
     let bytes = files::read(rt, name)?;
     let text = std::str::from_utf8(&bytes).map_err(|_| Stop::NoText(name))?;
     let mut targets = Vec::new(rt.alloc());
-    // No `enumerate`: that a text has so few lines is in no contract of `lines`.
-    for (number, line) in (1..=u64::MAX).zip(text.lines()) {
+    for (i, line) in text.lines().enumerate() {
         if !line.trim().is_empty() {
             let target = parse(line).map_err(|slip| Stop::WrongLine {
                 name,
-                line: number,
+                line: i + 1,
                 slip,
             })?;
             targets.push(target)?;
