@@ -4,7 +4,7 @@ use std::alloc::Global;
 use std::fmt;
 
 /// What a line asks for. Names of files are as the script has them.
-#[derive(Clone, Copy)]
+#[derive(Clone, Copy, PartialEq, Eq, Debug)]
 pub enum Command<'a> {
     /// A comment, which begins with '#'.
     Nothing,
@@ -24,8 +24,9 @@ pub enum Command<'a> {
     Hex(&'a str),
 }
 
-/// The commands by name.
-#[derive(Clone, Copy)]
+/// The commands by name. What is known of each stands in a `match` and no table: a `match` that misses a verb is an
+/// error, a table that misses one is not.
+#[derive(Clone, Copy, PartialEq, Eq, Debug)]
 pub enum Verb {
     Help,
     Check,

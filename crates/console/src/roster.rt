@@ -5,24 +5,17 @@ ghost use Rattle.kinds.specs.Targets.{is_target};
 use crate::files;
 use crate::stop::Stop;
 use kinds::{Kind, Target, Targets};
-use std::fmt;
+use thiserror::Error;
 
 /// What is wrong with a line.
-#[derive(Clone, Copy)]
+#[derive(Clone, Copy, PartialEq, Eq, Debug, Error)]
 pub enum Slip {
+    #[error("a target is two words, its number and its range")]
     Words,
+    #[error("the number has to be from 1 to 9999")]
     Number,
+    #[error("the range has to be from 0 to 99999 metres")]
     Range,
-}
-
-impl fmt::Display for Slip {
-    fn fmt<W: fmt::Write>(&self, f: &mut fmt::Formatter<W>) -> fmt::Result {
-        f.write_str(match self {
-            Slip::Words => "a target is two words, its number and its range",
-            Slip::Number => "the number has to be from 1 to 9999",
-            Slip::Range => "the range has to be from 0 to 99999 metres",
-        })
-    }
 }
 
 // The targets of a file.
@@ -30,11 +23,11 @@ pub(crate) fn read<'a>(rt: &HostRuntime, name: &'a str) -> Result<Vec<Target>, S
     let bytes = files::read(rt, name)?;
     let text = std::str::from_utf8(&bytes).map_err(|_| Stop::NoText(name))?;
     let mut targets = Vec::new(rt.alloc());
-    for (number, line) in (1..=u64::MAX).zip(text.lines()) {
+    for (i, line) in text.lines().enumerate() {
         if !line.trim().is_empty() {
             let target = parse(line).map_err(|slip| Stop::WrongLine {
                 name,
-                line: number,
+                line: i + 1,
                 slip,
             })?;
             targets.push(target)?;

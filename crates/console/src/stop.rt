@@ -27,10 +27,10 @@ pub enum Stop<'a> {
     /// A line of a file of targets, counted from 1, is none.
     WrongLine {
         name: &'a str,
-        line: u64,
+        line: usize,
         slip: Slip,
     },
-    /// A plan file is refused; `twice` is a number that two of its targets have.
+    /// A plan file is refused; `twice` is the number that two targets to be written have, which the fault does not tell.
     File {
         name: &'a str,
         fault: FileFault,

@@ -9,12 +9,11 @@ ghost use Rattle.labels.specs.Faults.{number_of};
 ghost use Rattle.labels.specs.Labels.{label, placed, Labelled, Written};
 
 use kinds::Target;
-use std::error::Error;
-use std::fmt;
+use thiserror::Error;
 
 /// A target with its position in the list, counted from 0. Labels compare by range, by position where ranges are equal,
 /// and last by number.
-#[derive(Clone, Copy, PartialEq, Eq, PartialOrd, Ord, Debug)]
+#[derive(Clone, Copy, PartialEq, Eq, PartialOrd, Ord, Debug, Default)]
 pub struct Label {
     pub range: u32,
     pub position: usize,
@@ -22,14 +21,15 @@ pub struct Label {
 }
 
 /// Why labels are refused. The number of each is what users know it by.
-#[derive(Clone, Copy, PartialEq, Eq, Debug)]
+#[derive(Clone, Copy, PartialEq, Eq, Debug, Error)]
 pub enum LabelFault {
     /// 18, at place 0: the output has fewer places than there are targets.
+    #[error("number {}, layer agenda, place 0: the output is too short", self.number())]
     OutputTooShort,
 }
 
 impl LabelFault {
-    /// The number of the refusal.
+    /// The number of the refusal. Each layer's numbers are its own, listed case by case.
     pub fn number(self) -> u8
         ensures { result ≡ number_of self }
     {
@@ -38,18 +38,6 @@ impl LabelFault {
         }
     }
 }
-
-impl fmt::Display for LabelFault {
-    fn fmt<W: fmt::Write>(&self, f: &mut fmt::Formatter<W>) -> fmt::Result {
-        let number = self.number();
-        let cause = match self {
-            LabelFault::OutputTooShort => "the output is too short",
-        };
-        write!(f, "number {number}, layer agenda, place 0: {cause}")
-    }
-}
-
-impl Error for LabelFault {}
 
 /// Writes the targets in label order to the start of the output, the rest of which stays, and gives their number.
 pub fn labels(targets: &[Target], out: &mut [Label]) -> Result<usize, LabelFault>
@@ -79,7 +67,7 @@ fn fill(targets: &[Target], places: &mut [Label])
     requires { length places.old ≡ length targets.now }
     ensures { places.new ≡ placed 0 targets.now }
 {
-    // By index: what an adapter of `iter_mut` wrote is known to no contract, so a `zip` of it was not proved.
+    // By index: a `zip` with `iter_mut` was tried and not proved, and its `enumerate()` would index the targets: no plainer.
     for (i, target) in targets.iter().enumerate() {
         places[i] = at_position(i, *target);
     }

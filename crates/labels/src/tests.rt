@@ -4,18 +4,12 @@ use kinds::Target;
 use std::process::Abort;
 use std::test::Fail;
 
-const BLANK: Label = Label {
-    range: 0,
-    position: 0,
-    number: 0,
-};
-
 const fn target(number: u16, range: u32) -> Target {
     Target { number, range }
 }
 
 fn labelled(rt: &impl Abort, targets: &[Target; 3], positions: [usize; 3]) {
-    let mut out = [BLANK; 5];
+    let mut out = [Label::default(); 5];
     assert_eq!(rt; labels(targets, &mut out), Ok(3));
     assert_eq!(rt; [out[0].number, out[1].number, out[2].number], [9, 7, 4]);
     assert_eq!(rt; [out[0].range, out[1].range, out[2].range], [250, 250, 900]);
@@ -23,7 +17,7 @@ fn labelled(rt: &impl Abort, targets: &[Target; 3], positions: [usize; 3]) {
         [out[0].position, out[1].position, out[2].position],
         positions
     );
-    assert_eq!(rt; [out[3], out[4]], [BLANK, BLANK]);
+    assert_eq!(rt; [out[3], out[4]], [Label::default(); 2]);
 }
 
 #[test]
@@ -47,25 +41,25 @@ fn nearest_first_and_ties_as_listed(rt: HostRuntime) {
 
 #[test]
 fn an_output_that_is_just_long_enough(rt: HostRuntime) {
-    let mut out = [BLANK; 2];
+    let mut out = [Label::default(); 2];
     assert_eq!(rt; labels(&[target(4, 900), target(9, 250)], &mut out), Ok(2));
     assert_eq!(rt; [out[0].number, out[1].number], [9, 4]);
 }
 
 #[test]
 fn an_output_that_is_too_short_stays(rt: HostRuntime) {
-    let mut out = [BLANK; 1];
+    let mut out = [Label::default(); 1];
     let refused = labels(&[target(4, 900), target(9, 250)], &mut out);
     assert_eq!(rt; refused, Err(LabelFault::OutputTooShort));
     assert_eq!(rt; LabelFault::OutputTooShort.number(), 18);
-    assert_eq!(rt; out, [BLANK]);
+    assert_eq!(rt; out, [Label::default()]);
 }
 
 #[test]
 fn no_targets(rt: HostRuntime) {
-    let mut out = [BLANK; 1];
+    let mut out = [Label::default(); 1];
     assert_eq!(rt; labels(&[], &mut out), Ok(0));
-    assert_eq!(rt; out, [BLANK]);
+    assert_eq!(rt; out, [Label::default()]);
     assert_eq!(rt; labels(&[], &mut []), Ok(0));
 }
 

@@ -1,4 +1,4 @@
--- What a memory holds, and how it reads. Assumes nothing.
+-- What a memory holds, and how it reads. No contract cites these definitions yet. Assumes nothing.
 use Rattle.std.specs.Prelude.{◌≡◌, ℕ, ◌+◌, ◌≤◌, List, [], map, length, Some, None, Option, slice_index_or}
 use Rattle.std.specs.Option.{option_map, unwrap_or}
 use Rattle.std.specs.List.{AllByRecursion}

@@ -2,9 +2,12 @@
 ghost use Rattle.std.specs.Prelude.{◌≡◌};
 ghost use Rattle.memory.specs.Faults.{number_of, place_of};
 
+use thiserror::Error;
+
 /// Why a store refuses. Each has its number, by which users know it, and its place: the argument of the call that was
 /// made, counted from 1, or 0 where the refusal is of no one argument.
-#[derive(Clone, Copy, PartialEq, Eq, Debug)]
+#[derive(Clone, Copy, PartialEq, Eq, Debug, Error)]
+#[error("number {}, layer store, place {}: {}", self.number(), self.place(), self.meaning())]
 pub enum StoreFault {
     /// 1: fewer than 1 or more than 262,144 cells.
     CellsOutside,
@@ -27,7 +30,7 @@ pub enum StoreFault {
 }
 
 impl StoreFault {
-    /// The number of the refusal.
+    /// The number of the refusal. Each layer's numbers are its own, listed case by case.
     pub fn number(self) -> u8
         ensures { result ≡ number_of self }
     {
@@ -58,6 +61,21 @@ impl StoreFault {
             | StoreFault::NoItem(place)
             | StoreFault::FewCells(place) => place,
             StoreFault::TooMany => 0,
+        }
+    }
+
+    /// What is wrong, in words.
+    fn meaning(self) -> &'static str {
+        match self {
+            StoreFault::CellsOutside => "fewer than 1 or more than 262144 cells",
+            StoreFault::TableOutside => "a table of fewer than 1 or more than 64 places",
+            StoreFault::PlaceOutside(_) => "a place outside the table",
+            StoreFault::NoVersion(_) => "no version at the place",
+            StoreFault::Occupied(_) => "a destination that is occupied, or equal to an earlier one",
+            StoreFault::NotAdmitted(_) => "an item that the kind does not admit",
+            StoreFault::NoItem(_) => "nothing to take, or no item at the position",
+            StoreFault::TooMany => "more items than the kind's most",
+            StoreFault::FewCells(_) => "fewer free cells than the call needs",
         }
     }
 }

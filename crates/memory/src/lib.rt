@@ -5,3 +5,5 @@ pub mod fault;
 pub mod memory;
 pub mod rows;
 pub mod table;
+#[cfg(test)]
+mod tests;

@@ -3,7 +3,7 @@ ghost use Rattle.std.specs.Prelude.{◌≡◌, ◌<◌, List, length, replicate,
 ghost use Rattle.sweep.specs.Kept.{vacant};
 ghost use Rattle.sweep.specs.declared.version.Version.{Version as VersionOf};
 ghost use Rattle.memory.specs.Rows.{recorded};
-ghost use Rattle.memory.specs.Versions.{root_at, kept_at};
+ghost use Rattle.memory.specs.Versions.{version_at, root_at, kept_at};
 
 use cells::cell::{EMPTY, Root};
 use std::marker::Model;
@@ -26,28 +26,30 @@ impl<'a> Table<'a> {
     pub fn new(versions: &'a mut [Version]) -> Table<'a>
         ensures { result ≡ replicate (length versions.old) vacant }
     {
-        versions.fill(Version { root: None });
-        Table { versions }
+        let mut table = Table { versions };
+        table.clear();
+        table
+    }
+
+    /// The root of the version at a place, if there is one; past the end there is none.
+    pub fn get(&self, place: u32) -> Option<Root>
+        ensures { result ≡ version_at self.now place }
+    {
+        self.versions.get(place as usize)?.root
     }
 
     /// The root at a place, that of the empty list where there is no version.
     pub fn root(&self, place: u32) -> Root
         ensures { result ≡ root_at self.now place }
     {
-        match self.versions.get(place as usize) {
-            Some(version) => version.root.unwrap_or(EMPTY),
-            None => EMPTY,
-        }
+        self.get(place).unwrap_or(EMPTY)
     }
 
     /// Whether there is a version at a place.
     pub fn is_kept(&self, place: u32) -> bool
         ensures { result ≡ kept_at self.now place }
     {
-        match self.versions.get(place as usize) {
-            Some(version) => version.root.is_some(),
-            None => false,
-        }
+        self.get(place).is_some()
     }
 
     /// Puts a version at a place, or takes it from there.

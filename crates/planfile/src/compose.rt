@@ -53,12 +53,12 @@ fn put_file(text: &[u8], targets: &[Target], out: &mut [u8]) -> Result<u32, File
     if text.len() > MOST_BYTES || targets.len() > MOST_BYTES {
         return Err(Cause::NoRoom.at(0));
     }
-    let lines = count_lines(text);
-    let size = text.len() + 3 * lines + 9 * targets.len() + 5;
+    let line_count = count_lines(text);
+    let size = text.len() + 3 * line_count + 9 * targets.len() + 5;
     if size > MOST_BYTES || size > out.len() {
         return Err(Cause::NoRoom.at(0));
     }
-    let count = (lines + targets.len()) as u16;
+    let count = (line_count + targets.len()) as u16;
     let lines = text.split_inclusive(is_newline).map(Item::Piece);
     put_whole(lines, targets.iter().map(target_item), count, out)
 }
@@ -78,7 +78,7 @@ fn count_lines(text: &[u8]) -> usize
     text.split_inclusive(is_newline).count()
 }
 
-/// A target as an item, with the lifetime of the list: the bare variant leaves that open, which the check does not cover.
+/// A target as an item. (`Item::Target` as a function leaves the lifetime open, and the check does not take that.)
 fn target_item<'a>(target: &'a Target) -> Item<'a>
     ensures { result ≡ Item.Target target.now }
 {

@@ -8,7 +8,7 @@ use super::read::{Field, Step, first_field};
 use kinds::Target;
 
 /// A line, as a part of the file's own bytes, or a target.
-#[derive(Clone, Copy)]
+#[derive(Clone, Copy, PartialEq, Eq, Debug)]
 pub enum Item<'a> {
     Piece(&'a [u8]),
     Target(Target),

@@ -16,6 +16,7 @@ mod fields;
 mod numbers;
 mod put;
 mod read;
+mod tags;
 
 pub use again::rewrite;
 pub use compose::write;

@@ -7,7 +7,7 @@ ghost use Rattle.planfile.specs.Files.{field_of, piece_field, target_field, end_
 ghost use Rattle.planfile.specs.Reading.{item_said};
 ghost use Rattle.planfile.specs.Writing.{written, Puts, Appends};
 
-use super::{Cause, FileFault, Item, MOST_BYTES};
+use super::{Cause, FileFault, Item, MOST_BYTES, tags};
 use kinds::Target;
 
 /// Writes a field that fits.
@@ -42,7 +42,7 @@ fn put_field(out: &mut [u8], at: u32, tag: u8, value: &[u8]) -> Result<u32, File
 pub fn put_piece(out: &mut [u8], at: u32, line: &[u8]) -> Result<u32, FileFault>
     ensures { Puts out.old at (piece_field line.now) result out.new }
 {
-    put_field(out, at, 0x02, line)
+    put_field(out, at, tags::PIECE, line)
 }
 
 /// Appends one target.
@@ -51,14 +51,14 @@ pub fn put_target(out: &mut [u8], at: u32, target: Target) -> Result<u32, FileFa
 {
     let [n1, n0] = target.number.to_be_bytes();
     let [r3, r2, r1, r0] = target.range.to_be_bytes();
-    put_field(out, at, 0x03, &[n1, n0, r3, r2, r1, r0])
+    put_field(out, at, tags::TARGET, &[n1, n0, r3, r2, r1, r0])
 }
 
 /// Appends the end of a file with so many fields before it.
 pub fn put_end(out: &mut [u8], at: u32, count: u16) -> Result<u32, FileFault>
     ensures { Puts out.old at (end_field count) result out.new }
 {
-    put_field(out, at, 0x7F, &count.to_be_bytes())
+    put_field(out, at, tags::END, &count.to_be_bytes())
 }
 
 /// Appends one item.

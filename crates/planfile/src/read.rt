@@ -5,7 +5,7 @@ ghost use Rattle.planfile.specs.Files.{KeepsRules, EnoughFields};
 ghost use Rattle.planfile.specs.Reading.{counted, stepped, told};
 
 use super::numbers::Numbers;
-use super::{Cause, FileFault, Item, MOST_BYTES};
+use super::{Cause, FileFault, Item, MOST_BYTES, tags};
 use kinds::{Kind, Target, Targets};
 
 /// How much a file holds.
@@ -17,14 +17,14 @@ pub struct Summary {
 }
 
 /// What one field says.
-#[derive(Clone, Copy)]
+#[derive(Clone, Copy, PartialEq, Eq, Debug)]
 pub enum Field<'a> {
     Item(Item<'a>),
     End(u16),
 }
 
 /// A field, and the bytes after it.
-#[derive(Clone, Copy)]
+#[derive(Clone, Copy, PartialEq, Eq, Debug)]
 pub struct Step<'a> {
     pub field: Field<'a>,
     pub rest: &'a [u8],
@@ -73,9 +73,9 @@ fn read_field(tag: u8, value: &[u8]) -> Result<Field<'_>, Cause>
     ensures { told result ≡ meaning tag value.now }
 {
     match tag {
-        0x02 => read_piece(value),
-        0x03 => read_target(value),
-        0x7F => read_end(value),
+        tags::PIECE => read_piece(value),
+        tags::TARGET => read_target(value),
+        tags::END => read_end(value),
         _ => Err(Cause::UnknownTag),
     }
 }

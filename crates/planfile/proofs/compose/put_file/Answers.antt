@@ -26,7 +26,7 @@ returns-then-size-gt-MOST_BYTES c =
     let text = c.args.text.now in
     let ts = c.args.targets.now in
     let size = file_size text ts in
-    let n = c.count_lines-lines.ensures.lines in
+    let n = c.count_lines-line_count.ensures.lines in
     let u : Unfit c.args.out.now (file_of (lines_of text) ts) = elim c.then-size-gt-MOST_BYTES.either [ inl p ↦ unfit_long _ _ (omega (arith, p, size, n)) | inr p ↦ unfit_short _ _ (omega (arith, p.1, size, n)) ] in
     record { answered = ap Err c.at-then-size-gt-MOST_BYTES.ensures ∙ u.answer; output = u.output }
 
@@ -35,11 +35,11 @@ returns c =
     let text = c.args.text.now in
     let ts = c.args.targets.now in
     let out = c.args.out.now in
-    let n = c.count_lines-lines.ensures.lines in
+    let n = c.count_lines-line_count.ensures.lines in
     let whole = c.put_whole.ensures _ _
     (YieldsList-from_map_by _ item_said piece (YieldsList-at c.map-lines.ensures.source (split_lines _ _ text c.split_inclusive.ensures.rest (answers_always _ _ _ (λ f a r g h. search rules)))) c.map-lines.ensures.closure (λ x r q k. search rules)).runs
     (YieldsList-from_map_by _ item_said target (YieldsList-at c.map.ensures.source (YieldsList-from_slice ts c.iter.ensures.rest)) c.map.ensures.closure (λ x r q k. search rules)).runs in
-    let bytes = ap₂ (λ l t. l ++ (t ++ end_field (c.count_lines-lines.result + length ts))) (flat_map-map field_saying piece (lines_of text)) (flat_map-map field_saying target ts)
+    let bytes = ap₂ (λ l t. l ++ (t ++ end_field (c.count_lines-line_count.result + length ts))) (flat_map-map field_saying piece (lines_of text)) (flat_map-map field_saying target ts)
     ∙ ap (λ k. flat_map piece_field (lines_of text) ++ (flat_map target_field ts ++ end_field (k + length ts))) n in
     let file = file_of (lines_of text) ts in
     let size = file_size text ts in
