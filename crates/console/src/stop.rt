@@ -30,7 +30,7 @@ pub enum Stop<'a> {
         line: usize,
         slip: Slip,
     },
-    /// A plan file is refused; `twice` is the number that two targets to be written have, which the fault does not tell.
+    /// A plan file is refused; `twice` is a number that two targets to be written have: the fault tells none.
     File {
         name: &'a str,
         fault: FileFault,

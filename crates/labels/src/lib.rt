@@ -67,7 +67,7 @@ fn fill(targets: &[Target], places: &mut [Label])
     requires { length places.old ≡ length targets.now }
     ensures { places.new ≡ placed 0 targets.now }
 {
-    // By index: a `zip` with `iter_mut` was tried and not proved, and its `enumerate()` would index the targets: no plainer.
+    // By index: a `zip` with `iter_mut` was tried and not proved, and `iter_mut().enumerate()` would index the targets.
     for (i, target) in targets.iter().enumerate() {
         places[i] = at_position(i, *target);
     }
