@@ -60,6 +60,7 @@ impl<T: Drop> From<AllocFailed<T>> for Stop<'_> {
     }
 }
 
+// By hand, and not derived: the text of a refused file is chosen by its cause.
 impl fmt::Display for Stop<'_> {
     fn fmt<W: fmt::Write>(&self, f: &mut fmt::Formatter<W>) -> fmt::Result {
         match self {
