@@ -6,3 +6,4 @@ pub mod Reaching
 pub mod Visiting
 pub mod Rereading
 pub mod Sweeping
+pub mod Examples

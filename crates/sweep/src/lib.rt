@@ -33,3 +33,6 @@ fn sweep_cells<I: Copy, T: Copy>(cells: &mut [Cell<I, T>], free: &mut FreeList, 
     mark::mark_all(cells, table);
     free::free_unmarked(cells, free);
 }
+
+#[cfg(test)]
+mod tests;
