@@ -1,6 +1,7 @@
 -- That all cells are free once each is free and linked to the next. Assumes nothing.
-use Rattle.std.proofs.Common.{◌≡◌, ℕ, zero, suc, ◌+◌, ◌<◌, ◌≤◌, cond, List, [], ◌∷◌, ◌++◌, length, get_or, take, set, sym, refl, ap, ◌∙◌, subst, arith}
-use Rattle.std.proofs.lemmas.List.{take_more_set}
+use Rattle.std.proofs.Common.{◌≡◌, ℕ, zero, suc, ◌+◌, ◌<◌, ◌≤◌, false, cond, List, [], ◌∷◌, ◌++◌, length, get_or, take, set, sym, refl, ap, ◌∙◌, subst, ⊎_elim, arith}
+use Rattle.std.proofs.lemmas.Bool.{cases_lt}
+use Rattle.std.proofs.lemmas.List.{get_or_past, take_more_set}
 use Rattle.std.proofs.lemmas.List.Sums.{sum_by-cons}
 use Rattle.cells.specs.Cells.{blank, link, is_free}
 use Rattle.cells.specs.Chain.{Absent, chain, Linked, free_from, free_cells, Sound}
@@ -8,7 +9,7 @@ use Rattle.cells.specs.declared.cell.Cell.{Cell}
 use Rattle.cells.specs.declared.cell.Body.TheVariants.{Free}
 
 abbrev freed : (I T : Type 0) → ℕ → Cell I T
-freed I T p = record { link = suc p; body = Free }
+freed I T p = record { marked = false; link = suc p; body = Free }
 
 free_more : (I T : Type 0) (p n : ℕ) → free_from {I = I} {T = T} p (suc n) ≡ free_from p n ++ (freed I T (p + n) ∷ [])
 free_more I T p zero = let e : p ≡ p + 0 = omega arith in ap (λ q. freed I T q ∷ []) e
@@ -61,5 +62,12 @@ module _ {I T : Type 0} (h : List (Cell I T)) (n : ℕ) (e : h ≡ free_from 0 n
   pub all_free : free_cells h ≡ n
   all_free = ap free_cells e ∙ count_from I T 0 n
 
+  long : length h ≡ n
+  long = ap length e ∙ long_from I T 0 n
+
   pub opened : Sound h (record { first = 0; count = n })
-  opened = record { linked = linked n 0 (omega arith); all = all_free }
+  opened = record {
+    linked = linked n 0 (omega arith);
+    all = all_free;
+    unmarked = λ p. ⊎_elim (λ (l : p < n). ap (λ (c : Cell I T). c.marked) (at p l)) (λ (l : n ≤ p). ap (λ (c : Cell I T). c.marked) (get_or_past h p blank (omega (arith, long)))) (cases_lt p n);
+  }

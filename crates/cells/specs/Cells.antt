@@ -21,7 +21,7 @@ in_order back near far = (far, near)
 
 module _ {I T : Type 0} where
   abbrev pub blank : Cell I T
-  blank = record { link = 0; body = Free }
+  blank = record { marked = false; link = 0; body = Free }
 
   -- what the cell at p holds; past the end, nothing
   abbrev pub body : List (Cell I T) → ℕ → Body I T
@@ -29,6 +29,9 @@ module _ {I T : Type 0} where
 
   abbrev pub link : List (Cell I T) → ℕ → ℕ
   link h p = (slice_index_or h p blank).link
+
+  abbrev pub marked : List (Cell I T) → ℕ → Bool
+  marked h p = (slice_index_or h p blank).marked
 
   abbrev pub is_free : Body I T → Bool
   is_free Free = true

@@ -9,12 +9,12 @@ use super::cell::{Body, Cell, FreeList};
 use std::marker::Model;
 
 /// The cells that are lent, and the list of the free ones among them. A contract sees the cells; that the list has all
-/// the free cells, each once, holds of every arena. It is generic in the item and the total, and not in the kind: what a
-/// contract sees of a type cannot cite what a kind names.
+/// the free cells, each once, and that no cell is marked, holds of every arena: whoever writes a field owes it. It is
+/// generic in the item and the total, and not in the kind: what a contract sees of a type cannot cite what a kind names.
 #[derive(Drop)]
 pub struct Arena<'a, I, T> {
-    cells: &'a mut [Cell<I, T>],
-    free: FreeList,
+    pub cells: &'a mut [Cell<I, T>],
+    pub free: FreeList,
 }
 
 impl<'a, I, T> Model for Arena<'a, I, T> {
@@ -88,6 +88,7 @@ fn free_all<I: Copy, T: Copy>(cells: &mut [Cell<I, T>])
 {
     for (i, cell) in cells.iter_mut().enumerate() {
         *cell = Cell {
+            marked: false,
             link: i as u32 + 1,
             body: Body::Free,
         };
@@ -108,7 +109,11 @@ fn take_cell<I: Copy, T: Copy>(
 {
     let at = free.first;
     let cell = cells[at as usize];
-    cells[at as usize] = Cell { link: 0, body };
+    cells[at as usize] = Cell {
+        marked: false,
+        link: 0,
+        body,
+    };
     free.first = cell.link;
     free.count -= 1;
     at

@@ -1,10 +1,13 @@
 // Cells, and what they hold.
 use super::fingers::Fingers;
 
-/// A cell of a store. The link is the next free cell, where this one is free; it stands beside the body, since who reads
-/// what a cell holds has nothing to do with the list of the free ones.
+/// A cell of a store. The link is the next free cell, where this one is free, and while a sweep runs the next cell of
+/// its work list, where this one is marked; it stands beside the body, since who reads what a cell holds has nothing to
+/// do with either list. The mark is a field of its own, since an item has no spare bit, and the link of a marked cell is
+/// in use while that cell waits. Between sweeps no cell is marked.
 #[derive(Clone, Copy)]
 pub struct Cell<I, T> {
+    pub marked: bool,
     pub link: u32,
     pub body: Body<I, T>,
 }

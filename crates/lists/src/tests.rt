@@ -17,6 +17,7 @@ type Kind = Counted<Targets>;
 type Lent<'a> = Arena<'a, Target, Tally<u32>>;
 
 const BLANK: Cell<Target, Tally<u32>> = Cell {
+    marked: false,
     link: 0,
     body: Body::Free,
 };

@@ -1,1 +1,4 @@
 pub mod Kept
+pub mod Marks
+pub mod Frees
+pub mod Swept
