@@ -3,8 +3,8 @@ use super::fingers::Fingers;
 
 // A cell of a store. The link is the next free cell, where this one is free, and while a sweep runs the next cell of its
 // work list, where this one is marked; it stands beside the body, since who reads what a cell holds has nothing to do
-// with either list. The mark is a field of its own: an item's cell has no spare bit, and the links of marked cells are in
-// use. Between sweeps no cell is marked.
+// with either list. The mark is a field of its own: neither a body nor a link has room for it, since any number may
+// be a link, and that of a marked cell is in use while the cell waits. Between sweeps no cell is marked.
 #[derive(Clone, Copy)]
 pub struct Cell<I, T> {
     pub marked: bool,

@@ -12,7 +12,7 @@ use Rattle.cells.specs.declared.cell.Root.{Root}
 use Rattle.cells.proofs.Frames.{keep_node, keep_tree}
 use Rattle.cells.proofs.Opened.{levels_read, tree_none}
 use Rattle.sweep.specs.declared.version.Version.{Version}
-use Rattle.sweep.specs.Kept.{Whole}
+use Rattle.sweep.specs.Kept.{KeptWhole}
 
 module _ {I T : Type 0} where
   abbrev pub Reads : List (Cell I T) → Root → Type 0
@@ -33,14 +33,14 @@ module _ {I T : Type 0} where
   pub still : {h h' : List (Cell I T)} → Extends h h' → (r : Root) → Reads h r → Reads h' r
   still {h} u r w = ap (formed r.levels 0) (keep_tree u r.levels 0 r.at ((decides_formed r.levels 0 (rooted h 0 r)).0 w).1) ∙ w
 
-  pub whole_none : (h : List (Cell I T)) → Whole h []
+  pub whole_none : (h : List (Cell I T)) → KeptWhole h []
   whole_none h v r e = absurd (let z : ◌≡◌ {A = Option Root} None (Some r) = e in cc)
 
-  pub whole_vacant : (h : List (Cell I T)) (table : List Version) → Whole h table → Whole h (record { root = None } ∷ table)
+  pub whole_vacant : (h : List (Cell I T)) (table : List Version) → KeptWhole h table → KeptWhole h (record { root = None } ∷ table)
   whole_vacant h table w zero r e = absurd (let z : ◌≡◌ {A = Option Root} None (Some r) = e in cc)
   whole_vacant h table w (suc v) r e = w v r e
 
-  pub whole_kept : (h : List (Cell I T)) (u : Version) (s : Root) (table : List Version) → u ≡ record { root = Some s } → Reads h s → Whole h table → Whole h (u ∷ table)
+  pub whole_kept : (h : List (Cell I T)) (u : Version) (s : Root) (table : List Version) → u ≡ record { root = Some s } → Reads h s → KeptWhole h table → KeptWhole h (u ∷ table)
   whole_kept h u s table i x w zero r e =
       let z : ◌≡◌ {A = Option Root} (Some s) (Some r) = sym (ap (λ (v : Version). v.root) i) ∙ e in
       let same : s ≡ r = cc in

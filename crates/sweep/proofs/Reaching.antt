@@ -9,7 +9,7 @@ use Rattle.cells.specs.Cells.{blank, body, is_free, rooted}
 use Rattle.cells.specs.declared.cell.Cell.{Cell}
 use Rattle.cells.specs.declared.cell.Root.{Root}
 use Rattle.sweep.specs.declared.version.Version.{Version}
-use Rattle.sweep.specs.Kept.{Kept, Whole, tree_cells, version_cells}
+use Rattle.sweep.specs.Kept.{Kept, KeptWhole, tree_cells, version_cells}
 use Rattle.sweep.specs.Marks.{In, children, first_of, root_cells, root_cell, AllNear}
 use Rattle.sweep.proofs.Members.{in_left, in_right, in_either}
 use Rattle.sweep.proofs.Standing.{Stands, stands_both, stands_none, stands_tree, first_in, all_tree}
@@ -21,7 +21,7 @@ module _ {I T : Type 0} (h : List (Cell I T)) where
   abbrev pub FormedAll : List Version → Type 0
   FormedAll table = (v : ℕ) (r : Root) → Kept table v r → Formed 0 (rooted h 0 r)
 
-  pub formed_all : (table : List Version) → Whole h table → FormedAll table
+  pub formed_all : (table : List Version) → KeptWhole h table → FormedAll table
   formed_all table w v r k = ((decides_formed r.levels 0 (rooted h 0 r)).0 (w v r k)).1
 
   stands_version : (o : Option Root) → ((r : Root) → o ≡ Some r → Formed 0 (rooted h 0 r)) → Stands h (version_cells h o)

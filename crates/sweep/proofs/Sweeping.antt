@@ -7,7 +7,7 @@ use Rattle.cells.specs.declared.cell.Cell.{Cell}
 use Rattle.cells.specs.declared.cell.Body.TheVariants.{Free}
 use Rattle.cells.specs.declared.cell.FreeList.{FreeList}
 use Rattle.sweep.specs.declared.version.Version.{Version}
-use Rattle.sweep.specs.Kept.{Whole, stood_on}
+use Rattle.sweep.specs.Kept.{KeptWhole, stood_on}
 use Rattle.sweep.specs.Marks.{Marked}
 use Rattle.sweep.specs.Frees.{Judging}
 use Rattle.sweep.specs.Swept.{left_over, Swept}
@@ -15,7 +15,7 @@ use Rattle.sweep.proofs.Members.{among_in, in_among}
 use Rattle.sweep.proofs.Reaching.{table_cells, formed_all, stands_table, in_table}
 use Rattle.sweep.proofs.Rereading.{same_tree}
 
-module _ {I T : Type 0} (h : List (Cell I T)) (table : List Version) (whole : Whole h table) where
+module _ {I T : Type 0} (h : List (Cell I T)) (table : List Version) (whole : KeptWhole h table) where
   live : (q : ℕ) → stood_on h table q ≡ true → is_free (body h q) ≡ false
   live q e = (stands_table h table (formed_all h table whole)).live q (among_in (table_cells h table) q e)
 

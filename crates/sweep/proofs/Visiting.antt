@@ -8,7 +8,7 @@ use Rattle.cells.specs.Chain.{chain}
 use Rattle.cells.specs.declared.cell.Cell.{Cell}
 use Rattle.sweep.specs.declared.mark.WorkList.{WorkList}
 use Rattle.sweep.specs.declared.version.Version.{Version}
-use Rattle.sweep.specs.Kept.{Whole, stood_on}
+use Rattle.sweep.specs.Kept.{KeptWhole, stood_on}
 use Rattle.sweep.specs.Marks.{In, children, root_cells, AllNear, Waits, Ready, Marks, popped, Marked}
 use Rattle.sweep.proofs.Members.{among_in, in_among}
 use Rattle.sweep.proofs.Marking.{waits_first, waits_split}
@@ -32,7 +32,7 @@ module _ {I T : Type 0} (h0 : List (Cell I T)) (table : List Version) where
     listed = λ q i. absurd (subst (λ n. In (chain h0 n w.first) q) e i);
   }
 
-  module _ (whole : Whole h0 table) where
+  module _ (whole : KeptWhole h0 table) where
     stands : Stands h0 (table_cells h0 table)
     stands = stands_table h0 table (formed_all h0 table whole)
 

@@ -23,8 +23,8 @@ among (q ∷ more) p = q == p || among more p
 
 module _ {I T : Type 0} where
   -- each kept version's tree is formed, of as many levels as its root says
-  abbrev pub Whole : List (Cell I T) → List Version → Type 0
-  Whole h table = (v : ℕ) (r : Root) → Kept table v r → formed r.levels 0 (rooted h 0 r) ≡ true
+  abbrev pub KeptWhole : List (Cell I T) → List Version → Type 0
+  KeptWhole h table = (v : ℕ) (r : Root) → Kept table v r → formed r.levels 0 (rooted h 0 r) ≡ true
 
   abbrev pub parts_cells : (ℕ → List ℕ) → Body I T → List ℕ
   parts_cells below Free = []

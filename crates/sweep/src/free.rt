@@ -6,7 +6,7 @@ ghost use Rattle.sweep.specs.Frees.{Judged, Judging};
 use cells::cell::{Body, Cell, FreeList};
 
 // Takes the mark from a marked cell, and frees any other.
-pub fn judge<I: Copy, T: Copy>(cells: &mut [Cell<I, T>], free: &mut FreeList, at: u32)
+fn judge<I: Copy, T: Copy>(cells: &mut [Cell<I, T>], free: &mut FreeList, at: u32)
     requires near { at < length cells.old }
     requires room { free.old.count + 1 < 2 ^ 32 }
     ensures { Judged cells.old free.old at cells.new free.new }

@@ -3,7 +3,7 @@
 ghost use Rattle.std.specs.Prelude.{◌≡◌, ℕ, ◌^◌, ◌<◌, false, [], ◌∷◌, length};
 ghost use Rattle.cells.specs.Cells.{body, marked};
 ghost use Rattle.cells.specs.Fingers.{held};
-ghost use Rattle.sweep.specs.Kept.{Whole};
+ghost use Rattle.sweep.specs.Kept.{KeptWhole};
 ghost use Rattle.sweep.specs.Marks.{AllNear, first_cell, children, root_cell, root_cells, Ready, Marks, popped, Marked};
 
 use super::version::Version;
@@ -18,7 +18,7 @@ pub struct WorkList {
 }
 
 // Marks a cell and puts it on the work list, unless it was marked.
-pub fn mark_cell<I: Copy, T: Copy>(cells: &mut [Cell<I, T>], work: &mut WorkList, at: u32)
+fn mark_cell<I: Copy, T: Copy>(cells: &mut [Cell<I, T>], work: &mut WorkList, at: u32)
     requires ready { Ready cells.old work.old }
     requires near { at < length cells.old }
     ensures { Marks cells.old work.old (at ∷ []) cells.new work.new }
@@ -85,7 +85,7 @@ fn mark_children<I: Copy, T: Copy>(cells: &mut [Cell<I, T>], work: &mut WorkList
 }
 
 // Takes the first cell from the work list, and marks its children.
-pub fn visit<I: Copy, T: Copy>(cells: &mut [Cell<I, T>], work: &mut WorkList)
+fn visit<I: Copy, T: Copy>(cells: &mut [Cell<I, T>], work: &mut WorkList)
     requires some { 0 < work.old.count }
     requires ready { Ready cells.old work.old }
     requires near { AllNear cells.old (children (body cells.old work.old.first)) }
@@ -122,7 +122,7 @@ fn mark_roots<I: Copy, T: Copy>(cells: &mut [Cell<I, T>], work: &mut WorkList, t
 // Marks the cells that the kept versions stand on, and no other.
 pub fn mark_all<I: Copy, T: Copy>(cells: &mut [Cell<I, T>], table: &[Version])
     requires few { length cells.old < 2 ^ 32 }
-    requires whole { Whole cells.old table.now }
+    requires whole { KeptWhole cells.old table.now }
     requires unmarked { (p : ℕ) → marked cells.old p ≡ false }
     ensures { Marked cells.old table.now cells.new }
 {
