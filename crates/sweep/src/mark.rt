@@ -109,6 +109,7 @@ fn mark_version<I: Copy, T: Copy>(cells: &mut [Cell<I, T>], work: &mut WorkList,
 }
 
 // Marks the first cell of each kept version.
+#[tactic(auto, using(crate::proofs::Marking::version_near))]
 fn mark_roots<I: Copy, T: Copy>(cells: &mut [Cell<I, T>], work: &mut WorkList, table: &[Version])
     requires ready { Ready cells.old work.old }
     requires near { AllNear cells.old (root_cells table.now) }
