@@ -10,7 +10,7 @@ use Rattle.cells.specs.Chain.{chain}
 use Rattle.cells.specs.declared.cell.Cell.{Cell}
 use Rattle.cells.specs.declared.cell.Root.{Root}
 use Rattle.sweep.specs.declared.mark.WorkList.{WorkList}
-use Rattle.sweep.specs.Marks.{In, unmarked, Waits, Ready, Marks, popped, first_cell, root_cell, root_cells}
+use Rattle.sweep.specs.Marks.{AllNear, In, unmarked, Waits, Ready, Marks, popped, first_cell, root_cell, root_cells}
 use Rattle.cells.specs.Fingers.{front_of, listed}
 use Rattle.cells.specs.declared.fingers.Digit.{Digit}
 use Rattle.cells.proofs.Fours.{listed_length}
@@ -163,3 +163,6 @@ pub in_roots : (table : List Version) (i q : ℕ) → i < length table → In (r
 in_roots [] i q l j = absurd (omega arith)
 in_roots (v ∷ table) zero q l j = in_left (root_cell v) (root_cells table) q j
 in_roots (v ∷ table) (suc i) q l j = in_right (root_cell v) (root_cells table) q (in_roots table i q (omega arith) j)
+
+pub version_near : {I T : Type 0} (h h' : List (Cell I T)) → length h' ≡ length h → (table : List Version) (i : ℕ) → i < length table → AllNear h (root_cells table) → AllNear h' (root_cell (get_or table i vacant))
+version_near h h' long table i l near q j = let n = near q (in_roots table i q l j) in omega arith

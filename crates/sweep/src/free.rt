@@ -29,7 +29,7 @@ fn judge<I: Copy, T: Copy>(cells: &mut [Cell<I, T>], free: &mut FreeList, at: u3
     free.count += 1;
 }
 
-// Judges every cell, and lists the free cells anew, in ascending order.
+/// Judges every cell, and lists the free cells anew, in ascending order.
 pub fn free_unmarked<I: Copy, T: Copy>(cells: &mut [Cell<I, T>], free: &mut FreeList)
     requires few { length cells.old < 2 ^ 32 }
     requires live { (p : ℕ) → marked cells.old p ≡ true → is_free (body cells.old p) ≡ false }

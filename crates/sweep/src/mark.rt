@@ -1,5 +1,8 @@
 // The marking of the cells that the kept versions stand on, by a work list that runs through the cells' links. A cell
 // enters it as it is marked, and so once: each visit leaves one cell fewer that waits or has no mark.
+//
+// The cells and the work list are two parameters: one struct of both, with `Ready` as its invariant, was tried. Its steps
+// are proved, but whoever lends it the cells learns nothing of what they hold afterwards.
 ghost use Rattle.std.specs.Prelude.{◌≡◌, ℕ, ◌^◌, ◌<◌, false, [], ◌∷◌, length};
 ghost use Rattle.cells.specs.Cells.{body, marked};
 ghost use Rattle.cells.specs.Fingers.{held};
@@ -10,7 +13,7 @@ use super::version::Version;
 use cells::cell::{Body, Cell, Root};
 use cells::fingers::{Digit, Fingers};
 
-// The cells that are marked and have still to be visited: how many, and the first; each one's link is the next.
+/// The cells that are marked and have still to be visited: how many, and the first; each one's link is the next.
 #[derive(Clone, Copy)]
 pub struct WorkList {
     pub first: u32,
@@ -109,6 +112,7 @@ fn mark_version<I: Copy, T: Copy>(cells: &mut [Cell<I, T>], work: &mut WorkList,
 }
 
 // Marks the first cell of each kept version.
+#[tactic(auto, using(crate::proofs::Marking::version_near))]
 fn mark_roots<I: Copy, T: Copy>(cells: &mut [Cell<I, T>], work: &mut WorkList, table: &[Version])
     requires ready { Ready cells.old work.old }
     requires near { AllNear cells.old (root_cells table.now) }
@@ -119,7 +123,7 @@ fn mark_roots<I: Copy, T: Copy>(cells: &mut [Cell<I, T>], work: &mut WorkList, t
     }
 }
 
-// Marks the cells that the kept versions stand on, and no other.
+/// Marks the cells that the kept versions stand on, and no other.
 pub fn mark_all<I: Copy, T: Copy>(cells: &mut [Cell<I, T>], table: &[Version])
     requires few { length cells.old < 2 ^ 32 }
     requires whole { KeptWhole cells.old table.now }

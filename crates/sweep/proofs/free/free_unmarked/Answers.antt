@@ -6,7 +6,7 @@ use Rattle.sweep.proofs.free.free_unmarked.Goals as goal
 pub loop-at-preserved : goal.loop-at-preserved
 loop-at-preserved g c =
     let within : c.loop-at.at ≤ length c.loop-at.cells = omega (arith, c.loop-at.auto.at, c.loop-at.auto.cells) in
-    judging_down _ _ _ _ _ _ c.requires.live c.loop-at-test.true within c.loop-at.invariant c.judge.ensures
+    judging_down _ _ _ _ _ _ c.requires.live (omega arith) within c.loop-at.invariant c.judge.ensures
 
 pub returns : goal.returns
 returns g c =

@@ -9,10 +9,10 @@ pub loop-work-init : goal.loop-work-init
 loop-work-init g c = begun c.args.cells.now c.args.table.now c.requires.whole _ _ _ c.requires.unmarked c.mark_roots.ensures
 
 pub visit-requires-clause-near : goal.visit-requires-clause-near
-visit-requires-clause-near g c = children_near c.args.cells.now c.args.table.now c.requires.whole c.loop-work.cells c.loop-work.work c.loop-work-test.true c.loop-work.invariant
+visit-requires-clause-near g c = children_near c.args.cells.now c.args.table.now c.requires.whole c.loop-work.cells c.loop-work.work (omega arith) c.loop-work.invariant
 
 pub loop-work-preserved : goal.loop-work-preserved
-loop-work-preserved g c = visited c.args.cells.now c.args.table.now c.requires.whole c.loop-work.cells c.loop-work.work c.loop-work-test.true c.loop-work.invariant _ _ c.visit.ensures
+loop-work-preserved g c = visited c.args.cells.now c.args.table.now c.requires.whole c.loop-work.cells c.loop-work.work (omega arith) c.loop-work.invariant _ _ c.visit.ensures
 
 pub returns : goal.returns
 returns g c = ended c.args.cells.now c.args.table.now c.requires.whole c.loop-work.cells c.loop-work.work (omega (arith, c.loop-work-test.false)) c.loop-work.invariant
