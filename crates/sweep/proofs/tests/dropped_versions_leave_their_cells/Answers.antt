@@ -1,6 +1,7 @@
-use Rattle.std.proofs.Common.{◌≡◌, [], ◌∷◌, None, Some, ap, ◌∙◌}
+use Rattle.std.proofs.Common.{◌≡◌, [], ◌∷◌, None, Some, ap, ◌∙◌, arith}
 use Rattle.model.specs.Tree.{formed}
 use Rattle.sweep.specs.declared.version.Version.{Version}
+use Rattle.cells.proofs.Opened.{node_within}
 use Rattle.sweep.proofs.Examples.{Reads, still_node, still, whole_none, whole_vacant, whole_kept}
 use Rattle.sweep.proofs.tests.dropped_versions_leave_their_cells.Goals as goal
 
@@ -31,3 +32,8 @@ sweep-requires-2-clause-whole g c =
     let kept : c.kept.result.root ≡ Some c.single-one.result = ap (λ (v : Version). v.root) c.kept.ensures in
     let after : Reads c.sweep.new.arena c.single-one.result = ap (formed c.single-one.result.levels 0) (c.sweep.ensures.reads 0 c.single-one.result kept) ∙ one in
     whole_kept c.sweep.new.arena _ c.single-one.result [] c.kept-3.ensures after (whole_none c.sweep.new.arena)
+
+pub body-requires : goal.body-requires
+body-requires g c =
+    let within = node_within c.placed-first.new.arena 0 c.placed-first.result c.placed-first.ensures.formed in
+    omega (arith, within, c.placed-second.ensures.grown.long, c.placed-third.ensures.grown.long, c.single-one.ensures.grown.long, c.pair-two.ensures.grown.long, c.single-dropped.ensures.grown.long, c.sweep.ensures.long, c.sweep-2.ensures.long)
