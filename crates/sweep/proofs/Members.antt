@@ -1,6 +1,6 @@
 -- The members of a list of numbers. Assumes nothing.
-use Rattle.std.proofs.Common.{◌≡◌, ℕ, zero, suc, ◌<◌, length, get_or, arith, Bool, true, false, eqb, ◌||◌, ◌⊎◌, List, [], ◌∷◌, ◌++◌, refl, inl, inr, ⊎_elim, eq-eqb, eqb-true}
-use Rattle.std.proofs.lemmas.Bool.{or_cases}
+use Rattle.std.proofs.Common.{◌≡◌, ℕ, zero, suc, ◌<◌, length, get_or, arith, Bool, true, false, eqb, ◌⊎◌, List, [], ◌∷◌, ◌++◌, refl, inl, inr, ⊎_elim, eq-eqb, eqb-true}
+use Rattle.std.proofs.lemmas.Bool.{or_cases, or_left, or_right}
 use Rattle.std.specs.List.{flat_map}
 use Rattle.sweep.specs.Kept.{among}
 use Rattle.sweep.specs.Marks.{In}
@@ -36,14 +36,6 @@ from_flat f (r ∷ ps) q i = ⊎_elim (λ j. (r, (inl refl, j))) (λ j. let x = 
 pub among_in : (ps : List ℕ) (q : ℕ) → among ps q ≡ true → In ps q
 among_in [] q e = absurd (let z : ◌≡◌ {A = Bool} false true = e in cc)
 among_in (p ∷ ps) q e = ⊎_elim (λ a. inl (eqb-true p q a)) (λ a. inr (among_in ps q a)) (or_cases (eqb p q) (among ps q) e)
-
-or_left : (x y : Bool) → x ≡ true → (x || y) ≡ true
-or_left true y e = refl
-or_left false y e = absurd (let z : ◌≡◌ {A = Bool} false true = e in cc)
-
-or_right : (x y : Bool) → y ≡ true → (x || y) ≡ true
-or_right true y e = refl
-or_right false y e = e
 
 pub in_among : (ps : List ℕ) (q : ℕ) → In ps q → among ps q ≡ true
 in_among [] q i = absurd i

@@ -1,6 +1,6 @@
 -- The kept versions of a table, and the cells that they stand on. Assumes nothing.
-use Rattle.std.specs.Prelude.{◌≡◌, ℕ, zero, suc, Bool, true, false, ◌||◌, List, [], ◌∷◌, ◌++◌, Some, None, Option, slice_index_or, ◌==◌}
-use Rattle.std.specs.List.{flat_map}
+use Rattle.std.specs.Prelude.{◌≡◌, ℕ, zero, suc, Bool, true, List, [], ◌∷◌, ◌++◌, Some, None, Option, slice_index_or, ◌==◌}
+use Rattle.std.specs.List.{flat_map, list_any}
 use Rattle.model.specs.Tree.{formed}
 use Rattle.cells.specs.Cells.{body, rooted}
 use Rattle.cells.specs.Fingers.{held}
@@ -18,8 +18,7 @@ Kept table v root = (slice_index_or table v vacant).root ≡ Some root
 
 -- whether p is one of them
 abbrev pub among : List ℕ → ℕ → Bool
-among [] p = false
-among (q ∷ more) p = q == p || among more p
+among ps p = list_any (λ q. q == p) ps
 
 module _ {I T : Type 0} where
   -- each kept version's tree is formed, of as many levels as its root says

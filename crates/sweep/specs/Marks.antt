@@ -12,6 +12,7 @@ use Rattle.sweep.specs.declared.mark.WorkList.{WorkList}
 use Rattle.sweep.specs.declared.version.Version.{Version}
 use Rattle.sweep.specs.Kept.{stood_on}
 
+-- q is one of them: by recursion, as a chain goes, where the library's `Contains` goes by index
 abbrev pub In : List ℕ → ℕ → Type 0
 In [] q = ⊥
 In (p ∷ more) q = (p ≡ q) ⊎ In more q
