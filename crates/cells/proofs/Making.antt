@@ -1,5 +1,5 @@
 -- What a new cell reads as. Assumes nothing.
-use Rattle.std.proofs.Common.{◌≡◌, ℕ, suc, ◌+◌, ◌≤◌, true, eqb, List, [], ◌∷◌, length, get_or, ap, ◌∙◌, arith}
+use Rattle.std.proofs.Common.{◌≡◌, ℕ, zero, suc, ◌+◌, ◌≤◌, true, eqb, List, [], ◌∷◌, length, get_or, ap, ◌∙◌, arith}
 use Rattle.std.proofs.lemmas.Bool.Decides.{nat_tests}
 use Rattle.std.proofs.lemmas.List.{length-map}
 use Rattle.model.specs.Tree.{Side as End}
@@ -74,3 +74,26 @@ module _ {I T Q : Type 0} (q : Algebra I T Q) (h : List (Cell I T)) (k n : ℕ) 
 
   pub triple : (x y z o w : Weight T) → n ≡ 3 → Weighed (sum_node q (of_at 0)) (count_node (of_at 0)) x → Weighed (sum_node q (of_at 1)) (count_node (of_at 1)) y → Weighed (sum_node q (of_at 2)) (count_node (of_at 2)) z → Weighed (q.joined y.total z.total) (y.items + z.items) o → Weighed (q.joined x.total o.total) (x.items + o.items) w → Regrouped w
   triple x y z o w e u v p r t = rw e (record { total_is = t.total_is ∙ rw (u.total_is, r.total_is, v.total_is, p.total_is); items_are = t.items_are ∙ rw (u.items_are, r.items_are, v.items_are, p.items_are) })
+
+-- two or three nodes, each formed and no more than all of them
+pub two_formed : {I T : Type 0} (h : List (Cell I T)) (k n : ℕ) (at : List ℕ) → 2 ≤ n → Each k (nodes h k (front_of n at)) → FormedNode k (node h k (get_or at 0 0)) × FormedNode k (node h k (get_or at 1 0))
+two_formed h k zero at l w = absurd (omega arith)
+two_formed h k (suc zero) at l w = absurd (omega arith)
+two_formed h k (suc (suc n)) at l w = (w.0, w.1.0)
+
+pub third_formed : {I T : Type 0} (h : List (Cell I T)) (k n : ℕ) (at : List ℕ) → 3 ≤ n → Each k (nodes h k (front_of n at)) → FormedNode k (node h k (get_or at 2 0))
+third_formed h k zero at l w = absurd (omega arith)
+third_formed h k (suc zero) at l w = absurd (omega arith)
+third_formed h k (suc (suc zero)) at l w = absurd (omega arith)
+third_formed h k (suc (suc (suc n))) at l w = w.1.1.0
+
+pub two_counted : {I T : Type 0} (h : List (Cell I T)) (k n : ℕ) (at : List ℕ) → 2 ≤ n → count_node (node h k (get_or at 0 0)) + count_node (node h k (get_or at 1 0)) ≤ count_run (nodes h k (front_of n at))
+two_counted h k zero at l = absurd (omega arith)
+two_counted h k (suc zero) at l = absurd (omega arith)
+two_counted h k (suc (suc n)) at l = omega arith
+
+pub three_counted : {I T : Type 0} (h : List (Cell I T)) (k n : ℕ) (at : List ℕ) → 3 ≤ n → count_node (node h k (get_or at 0 0)) + (count_node (node h k (get_or at 1 0)) + count_node (node h k (get_or at 2 0))) ≤ count_run (nodes h k (front_of n at))
+three_counted h k zero at l = absurd (omega arith)
+three_counted h k (suc zero) at l = absurd (omega arith)
+three_counted h k (suc (suc zero)) at l = absurd (omega arith)
+three_counted h k (suc (suc (suc n))) at l = omega arith

@@ -6,6 +6,8 @@ ghost use Rattle.cells.specs.Chain.{Sound, Taken, free_cells, free_from};
 ghost use Rattle.cells.specs.declared.cell.Cell.{Cell as CellOf};
 
 use super::cell::{Body, Cell, FreeList};
+use super::free::take_cell;
+use super::read::body_at;
 use std::marker::Model;
 
 /// The cells that are lent, and the list of the free ones among them. A contract sees the cells; that the list has all
@@ -73,14 +75,6 @@ impl<'a, I: Copy, T: Copy> Arena<'a, I, T> {
     }
 }
 
-/// What a cell holds.
-fn body_at<I: Copy, T: Copy>(cells: &[Cell<I, T>], at: u32) -> Body<I, T>
-    requires { at < length cells.now }
-    ensures { result ≡ body_of cells.now at }
-{
-    cells[at as usize].body
-}
-
 /// Frees all cells, each linked to the next.
 fn free_all<I: Copy, T: Copy>(cells: &mut [Cell<I, T>])
     requires { length cells.old < 2 ^ 32 }
@@ -93,28 +87,4 @@ fn free_all<I: Copy, T: Copy>(cells: &mut [Cell<I, T>])
             body: Body::Free,
         };
     }
-}
-
-/// Has the first free cell hold something.
-fn take_cell<I: Copy, T: Copy>(
-    cells: &mut [Cell<I, T>],
-    free: &mut FreeList,
-    body: Body<I, T>,
-) -> u32
-    requires used { is_free body ≡ false }
-    requires some { 0 < free.old.count }
-    requires sound { Sound cells.old free.old }
-    ensures taken { Taken cells.old cells.new result body }
-    ensures sound { Sound cells.new free.new }
-{
-    let at = free.first;
-    let cell = cells[at as usize];
-    cells[at as usize] = Cell {
-        marked: false,
-        link: 0,
-        body,
-    };
-    free.first = cell.link;
-    free.count -= 1;
-    at
 }

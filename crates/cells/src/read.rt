@@ -1,27 +1,35 @@
 // The reading of nodes and levels.
-ghost use Rattle.std.specs.Prelude.{◌≡◌, suc, ◌+◌, ◌^◌, ◌<◌};
+ghost use Rattle.std.specs.Prelude.{◌≡◌, suc, ◌+◌, ◌^◌, ◌<◌, length};
 ghost use Rattle.model.specs.Tree.{leaf, count_node, count_run, count};
 ghost use Rattle.model.specs.Measures.{sum_node, sum_run, sum};
 ghost use Rattle.model.specs.Measures.{toward as nearer};
 ghost use Rattle.model.specs.Ends.{fingers};
 ghost use Rattle.model.specs.Forms.{FormedNode, Each, Formed};
 ghost use Rattle.cells.specs.Cells.{end, node, nodes, rooted};
+ghost use Rattle.cells.specs.Cells.{body as body_of};
 ghost use Rattle.cells.specs.Fingers.{listed};
 ghost use Rattle.cells.specs.Made.{Weighed, Seen};
 
-use super::arena::Arena;
-use super::cell::{Body, Root, Weight};
+use super::cell::{Body, Cell, Root, Weight};
 use super::fingers::Digit;
 use super::side::Side;
 use super::view::View;
 use kinds::Kind;
 
-/// What a node comes to.
-pub fn weigh<K: Kind>(arena: &Arena<'_, K::Item, K::Total>, level: u32, at: u32) -> Weight<K::Total>
-    requires { FormedNode level (node arena.now level at) }
-    ensures { Weighed (sum_node K.Kind.kind (node arena.now level at)) (count_node (node arena.now level at)) result }
+/// What a cell holds.
+pub fn body_at<I: Copy, T: Copy>(cells: &[Cell<I, T>], at: u32) -> Body<I, T>
+    requires { at < length cells.now }
+    ensures { result ≡ body_of cells.now at }
 {
-    match arena.body(at) {
+    cells[at as usize].body
+}
+
+/// What a node comes to.
+pub fn weigh<K: Kind>(cells: &[Cell<K::Item, K::Total>], level: u32, at: u32) -> Weight<K::Total>
+    requires { FormedNode level (node cells.now level at) }
+    ensures { Weighed (sum_node K.Kind.kind (node cells.now level at)) (count_node (node cells.now level at)) result }
+{
+    match body_at(cells, at) {
         Body::Item { item } => Weight {
             total: K::measure(item),
             items: 1,
@@ -59,19 +67,19 @@ pub fn weigh_nothing<K: Kind>() -> Weight<K::Total>
 
 /// What fingers at a side come to.
 pub fn weigh_run<K: Kind>(
-    arena: &Arena<'_, K::Item, K::Total>,
+    cells: &[Cell<K::Item, K::Total>],
     level: u32,
     side: Side,
     digit: Digit,
 ) -> Weight<K::Total>
-    requires formed { Each level (nodes arena.now level (listed digit)) }
-    requires fits { count_run (nodes arena.now level (listed digit)) < 2 ^ 32 }
-    ensures { Weighed (sum_run K.Kind.kind (end side) (nodes arena.now level (listed digit))) (count_run (nodes arena.now level (listed digit))) result }
+    requires formed { Each level (nodes cells.now level (listed digit)) }
+    requires fits { count_run (nodes cells.now level (listed digit)) < 2 ^ 32 }
+    ensures { Weighed (sum_run K.Kind.kind (end side) (nodes cells.now level (listed digit))) (count_run (nodes cells.now level (listed digit))) result }
 {
     let (finger, rest) = digit.split_first();
-    let first = weigh::<K>(arena, level, finger);
+    let first = weigh::<K>(cells, level, finger);
     let others = match rest {
-        Some(more) => weigh_run::<K>(arena, level, side, more),
+        Some(more) => weigh_run::<K>(cells, level, side, more),
         None => weigh_nothing::<K>(),
     };
     toward::<K>(side, first, others)
@@ -79,18 +87,18 @@ pub fn weigh_run<K: Kind>(
 
 /// What a tree comes to.
 pub fn weigh_tree<K: Kind>(
-    arena: &Arena<'_, K::Item, K::Total>,
+    cells: &[Cell<K::Item, K::Total>],
     level: u32,
     root: Root,
 ) -> Weight<K::Total>
-    requires { Formed level (rooted arena.now level root) }
-    ensures { Weighed (sum K.Kind.kind (rooted arena.now level root)) (count (rooted arena.now level root)) result }
+    requires { Formed level (rooted cells.now level root) }
+    ensures { Weighed (sum K.Kind.kind (rooted cells.now level root)) (count (rooted cells.now level root)) result }
 {
     if root.levels == 0 {
         return weigh_nothing::<K>();
     }
-    match arena.body(root.at) {
-        Body::Single { finger } => weigh::<K>(arena, level, finger),
+    match body_at(cells, root.at) {
+        Body::Single { finger } => weigh::<K>(cells, level, finger),
         Body::Deep {
             weight,
             front: _,
@@ -101,61 +109,64 @@ pub fn weigh_tree<K: Kind>(
     }
 }
 
-impl<I: Copy, T: Copy> Arena<'_, I, T> {
-    /// The first level of a tree, as it is seen from a side.
-    pub fn view(&self, level: u32, side: Side, root: Root) -> View
-        requires { Formed level (rooted self.now level root) }
-        ensures { Seen self.now level (end side) root result }
-    {
-        if root.levels == 0 {
-            return View::Empty;
-        }
-        match self.body(root.at) {
-            Body::Single { finger } => View::Single { finger },
-            Body::Deep {
-                weight: _,
-                front,
-                middle,
-                back,
-            } => {
-                let Ok(front) = Digit::try_from(front) else {
-                    unreachable();
-                };
-                let Ok(back) = Digit::try_from(back) else {
-                    unreachable();
-                };
-                let (near, far) = side.ordered(front, back);
-                View::Deep { near, middle, far }
-            }
-            _ => unreachable(),
-        }
+/// The first level of a tree, as it is seen from a side.
+pub fn view<K: Kind>(cells: &[Cell<K::Item, K::Total>], level: u32, side: Side, root: Root) -> View
+    requires { Formed level (rooted cells.now level root) }
+    ensures { Seen cells.now level (end side) root result }
+{
+    if root.levels == 0 {
+        return View::Empty;
     }
+    match body_at(cells, root.at) {
+        Body::Single { finger } => View::Single { finger },
+        Body::Deep {
+            weight: _,
+            front,
+            middle,
+            back,
+        } => {
+            let Ok(front) = Digit::try_from(front) else {
+                unreachable();
+            };
+            let Ok(back) = Digit::try_from(back) else {
+                unreachable();
+            };
+            let (near, far) = side.ordered(front, back);
+            View::Deep { near, middle, far }
+        }
+        _ => unreachable(),
+    }
+}
 
-    /// The parts of a node, listed from the side.
-    pub fn parts(&self, level: u32, side: Side, at: u32) -> Digit
-        requires { FormedNode (suc level) (node self.now (suc level) at) }
-        ensures { nodes self.now level (listed result) ≡ fingers (end side) (node self.now (suc level) at) }
-    {
-        let Body::Node { weight: _, parts } = self.body(at) else {
-            unreachable();
-        };
-        let Ok(parts) = Digit::try_from(parts) else {
-            unreachable();
-        };
-        match side {
-            Side::Front => parts,
-            Side::Back => parts.reversed(),
-        }
+/// The parts of a node, listed from the side.
+pub fn fingers_of<K: Kind>(
+    cells: &[Cell<K::Item, K::Total>],
+    level: u32,
+    side: Side,
+    at: u32,
+) -> Digit
+    requires { FormedNode (suc level) (node cells.now (suc level) at) }
+    ensures { nodes cells.now level (listed result) ≡ fingers (end side) (node cells.now (suc level) at) }
+{
+    let Body::Node { weight: _, parts } = body_at(cells, at) else {
+        unreachable();
+    };
+    let Ok(parts) = Digit::try_from(parts) else {
+        unreachable();
+    };
+    match side {
+        Side::Front => parts,
+        Side::Back => parts.reversed(),
     }
+}
 
-    /// The item that a node of depth 0 is.
-    pub fn item(&self, at: u32) -> I
-        requires { FormedNode 0 (node self.now 0 at) }
-        ensures { node self.now 0 at ≡ leaf result }
-    {
-        let Body::Item { item } = self.body(at) else {
-            unreachable();
-        };
-        item
-    }
+/// The item that a node of depth 0 is.
+pub fn read_item<K: Kind>(cells: &[Cell<K::Item, K::Total>], at: u32) -> K::Item
+    requires { FormedNode 0 (node cells.now 0 at) }
+    ensures { node cells.now 0 at ≡ leaf result }
+{
+    let Body::Item { item } = body_at(cells, at) else {
+        unreachable();
+    };
+    item
 }

@@ -5,12 +5,12 @@ use Rattle.cells.specs.Cells.{end, rooted}
 use Rattle.cells.proofs.Making.{made_sided}
 use Rattle.cells.proofs.build.make_deep.Goals as goal
 
-pub returns : goal.returns
-returns g c =
+pub returns-clause-made : goal.returns-clause-made
+returns-clause-made g c =
     let q = g.K.Kind.kind in
     let up : c.args.level + 1 ≡ suc c.args.level = omega arith in
-    let s = ap (λ (k : ℕ). sum q (rooted c.args.arena.now k c.args.middle)) up in
-    let n = ap (λ (k : ℕ). count (rooted c.args.arena.now k c.args.middle)) up in
-    made_sided q c.args.level (end c.args.side) c.args.near c.args.far c.ordered.result c.ordered.ensures refl c.into.ensures c.into-2.ensures c.take-at.ensures c.requires.near c.requires.middle c.requires.far
+    let s = ap (λ (k : ℕ). sum q (rooted c.args.cells.now k c.args.middle)) up in
+    let n = ap (λ (k : ℕ). count (rooted c.args.cells.now k c.args.middle)) up in
+    made_sided q c.args.level (end c.args.side) c.args.near c.args.far c.ordered.result c.ordered.ensures refl c.into.ensures c.into-2.ensures c.take_cell-at.ensures.taken c.requires.near c.requires.middle c.requires.far
     (cc (s, c.toward-weight.ensures.total_is, c.toward.ensures.total_is, c.weigh_run-first.ensures.total_is, c.weigh_tree-inner.ensures.total_is, c.weigh_run-last.ensures.total_is))
     (omega (arith, n, c.toward-weight.ensures.items_are, c.toward.ensures.items_are, c.weigh_run-first.ensures.items_are, c.weigh_tree-inner.ensures.items_are, c.weigh_run-last.ensures.items_are))

@@ -1,5 +1,5 @@
 use Rattle.cells.proofs.Making.{made_single}
 use Rattle.cells.proofs.build.make_single.Goals as goal
 
-pub returns : goal.returns
-returns g c = made_single g.K.Kind.kind c.args.level c.take-at.ensures c.requires.formed
+pub returns-clause-made : goal.returns-clause-made
+returns-clause-made g c = made_single g.K.Kind.kind c.args.level c.take_cell-at.ensures.taken c.requires.formed
