@@ -7,7 +7,7 @@ ghost use Rattle.cells.specs.Cells.{nodes};
 ghost use Rattle.cells.specs.Fingers.{listed, listed_some};
 ghost use Rattle.cuts.specs.Cuts.{cut_at};
 
-use cells::arena::Arena;
+use cells::cell::Cell;
 use cells::digits::prepend_some;
 use cells::fingers::Digit;
 use cells::read::weigh;
@@ -26,19 +26,19 @@ pub struct Split<A> {
 /// fingers before the cut are listed from the right. (A seek walks along fingers too, but stops by a question: one walk for
 /// both would take a closure for the stop and promise what it promises.)
 pub fn cut_digit<K: Kind>(
-    arena: &Arena<'_, K::Item, K::Total>,
+    cells: &[Cell<K::Item, K::Total>],
     level: u32,
     position: u32,
     passed: Option<Digit>,
     digit: Digit,
 ) -> Split<Option<Digit>>
     requires few { length (listed_some passed) + digit.count ≤ 4 }
-    requires formed { Each level (nodes arena.now level (listed digit)) }
-    requires within { position < count_run (nodes arena.now level (listed digit)) }
-    ensures { cut_at arena.now level result ≡ cut position (nodes arena.now level (listed_some passed)) (nodes arena.now level (listed digit)) }
+    requires formed { Each level (nodes cells.now level (listed digit)) }
+    requires within { position < count_run (nodes cells.now level (listed digit)) }
+    ensures { cut_at cells.now level result ≡ cut position (nodes cells.now level (listed_some passed)) (nodes cells.now level (listed digit)) }
 {
     let (finger, after) = digit.split_first();
-    let weight = weigh::<K>(arena, level, finger);
+    let weight = weigh::<K>(cells, level, finger);
     if position < weight.items {
         return Split {
             before: passed,
@@ -51,5 +51,5 @@ pub fn cut_digit<K: Kind>(
         unreachable();
     };
     let more = prepend_some(finger, passed);
-    cut_digit::<K>(arena, level, position - weight.items, Some(more), rest)
+    cut_digit::<K>(cells, level, position - weight.items, Some(more), rest)
 }

@@ -7,16 +7,16 @@ ghost use Rattle.model.specs.Ends.{trim as trimmed};
 ghost use Rattle.model.specs.Ends.{pop as popped};
 ghost use Rattle.model.specs.Forms.{FormedNode, Each, Formed};
 ghost use Rattle.cells.specs.Cells.{end, node, nodes, rooted};
-ghost use Rattle.cells.specs.Chain.{free_cells};
+ghost use Rattle.cells.specs.Chain.{Sound, free_cells};
 ghost use Rattle.cells.specs.Fingers.{listed};
 ghost use Rattle.cells.specs.Made.{MadeTree};
 ghost use Rattle.ends.specs.Pops.{popped_of, PoppedWell, popped_levels, count_popped, MadePop};
 ghost use Rattle.cells.specs.Fingers.{listed_some};
 
-use cells::arena::Arena;
 use cells::build::{make_deep, make_single};
-use cells::cell::{EMPTY, Root};
+use cells::cell::{Cell, EMPTY, FreeList, Root};
 use cells::fingers::Digit;
+use cells::read::{fingers_of, view};
 use cells::side::Side;
 use cells::view::View;
 use kinds::Kind;
@@ -30,44 +30,50 @@ pub struct Popped<A> {
 
 /// Fingers listed from the side, as a tree.
 pub fn tree_from<K: Kind>(
-    arena: &mut Arena<'_, K::Item, K::Total>,
+    cells: &mut [Cell<K::Item, K::Total>],
+    free: &mut FreeList,
     level: u32,
     side: Side,
     digit: Digit,
 ) -> Root
-    requires room { 0 < free_cells arena.old }
+    requires room { 0 < free_cells cells.old }
+    requires sound { Sound cells.old free.old }
     requires shallow { level < 64 }
-    requires formed { Each level (nodes arena.old level (listed digit)) }
-    requires fits { count_run (nodes arena.old level (listed digit)) < 2 ^ 32 }
-    ensures { MadeTree arena.old arena.new 1 level result (tree_of K.Kind.kind (end side) (nodes arena.old level (listed digit))) }
+    requires formed { Each level (nodes cells.old level (listed digit)) }
+    requires fits { count_run (nodes cells.old level (listed digit)) < 2 ^ 32 }
+    ensures made { MadeTree cells.old cells.new 1 level result (tree_of K.Kind.kind (end side) (nodes cells.old level (listed digit))) }
+    ensures sound { Sound cells.new free.new }
 {
     let (others, last) = digit.split_last();
     match others {
-        None => make_single::<K>(arena, level, last),
-        Some(near) => make_deep::<K>(arena, level, side, near, EMPTY, Digit::of([last])),
+        None => make_single::<K>(cells, free, level, last),
+        Some(near) => make_deep::<K>(cells, free, level, side, near, EMPTY, Digit::of([last])),
     }
 }
 
 /// A level whose fingers at the side are gone, where `below` came of a pop of its middle.
 pub fn refill<K: Kind>(
-    arena: &mut Arena<'_, K::Item, K::Total>,
+    cells: &mut [Cell<K::Item, K::Total>],
+    free: &mut FreeList,
     level: u32,
     side: Side,
     below: Option<Popped<u32>>,
     far: Digit,
 ) -> Root
-    requires room { 0 < free_cells arena.old }
+    requires room { 0 < free_cells cells.old }
+    requires sound { Sound cells.old free.old }
     requires shallow { level + popped_levels below < 64 }
-    requires below { PoppedWell arena.old (suc level) below }
-    requires far { Each level (nodes arena.old level (listed far)) }
-    requires fits { count_popped (popped_of arena.old (suc level) below) + count_run (nodes arena.old level (listed far)) < 2 ^ 32 }
-    ensures { MadeTree arena.old arena.new 1 level result (trimmed K.Kind.kind (end side) [] nothing_left (nodes arena.old level (listed far)) (popped_of arena.old (suc level) below)) }
+    requires below { PoppedWell cells.old (suc level) below }
+    requires far { Each level (nodes cells.old level (listed far)) }
+    requires fits { count_popped (popped_of cells.old (suc level) below) + count_run (nodes cells.old level (listed far)) < 2 ^ 32 }
+    ensures made { MadeTree cells.old cells.new 1 level result (trimmed K.Kind.kind (end side) [] nothing_left (nodes cells.old level (listed far)) (popped_of cells.old (suc level) below)) }
+    ensures sound { Sound cells.new free.new }
 {
     match below {
-        None => tree_from::<K>(arena, level, side.opposite(), far),
+        None => tree_from::<K>(cells, free, level, side.opposite(), far),
         Some(inner) => {
-            let near = arena.parts(level, side, inner.taken);
-            make_deep::<K>(arena, level, side, near, inner.rest, far)
+            let near = fingers_of::<K>(cells, level, side, inner.taken);
+            make_deep::<K>(cells, free, level, side, near, inner.rest, far)
         }
     }
 }
@@ -75,18 +81,21 @@ pub fn refill<K: Kind>(
 /// The finger at a side, and the tree without it, if there is one.
 #[cycle(popping)]
 pub fn pop<K: Kind>(
-    arena: &mut Arena<'_, K::Item, K::Total>,
+    cells: &mut [Cell<K::Item, K::Total>],
+    free: &mut FreeList,
     level: u32,
     side: Side,
     root: Root,
 ) -> Option<Popped<u32>>
-    requires room { root.levels ≤ free_cells arena.old }
+    requires room { root.levels ≤ free_cells cells.old }
+    requires sound { Sound cells.old free.old }
     requires shallow { level + root.levels < 64 }
-    requires formed { Formed level (rooted arena.old level root) }
-    requires fits { count (rooted arena.old level root) < 2 ^ 32 }
-    ensures { MadePop arena.old arena.new root.levels level result (popped K.Kind.kind (end side) (rooted arena.old level root)) }
+    requires formed { Formed level (rooted cells.old level root) }
+    requires fits { count (rooted cells.old level root) < 2 ^ 32 }
+    ensures made { MadePop cells.old cells.new root.levels level result (popped K.Kind.kind (end side) (rooted cells.old level root)) }
+    ensures sound { Sound cells.new free.new }
 {
-    match arena.view(level, side, root) {
+    match view::<K>(cells, level, side, root) {
         View::Empty => None,
         View::Single { finger } => Some(Popped {
             taken: finger,
@@ -94,7 +103,7 @@ pub fn pop<K: Kind>(
         }),
         View::Deep { near, middle, far } => {
             let (finger, others) = near.split_first();
-            let rest = trim::<K>(arena, level, side, others, middle, far);
+            let rest = trim::<K>(cells, free, level, side, others, middle, far);
             Some(Popped {
                 taken: finger,
                 rest,
@@ -106,26 +115,29 @@ pub fn pop<K: Kind>(
 /// A level whose fingers at the side may be gone.
 #[cycle(popping)]
 pub fn trim<K: Kind>(
-    arena: &mut Arena<'_, K::Item, K::Total>,
+    cells: &mut [Cell<K::Item, K::Total>],
+    free: &mut FreeList,
     level: u32,
     side: Side,
     near: Option<Digit>,
     middle: Root,
     far: Digit,
 ) -> Root
-    requires room { middle.levels < free_cells arena.old }
+    requires room { middle.levels < free_cells cells.old }
+    requires sound { Sound cells.old free.old }
     requires shallow { level + 1 + middle.levels < 64 }
-    requires near { Each level (nodes arena.old level (listed_some near)) }
-    requires middle { Formed (suc level) (rooted arena.old (suc level) middle) }
-    requires far { Each level (nodes arena.old level (listed far)) }
-    requires fits { count_run (nodes arena.old level (listed_some near)) + (count (rooted arena.old (suc level) middle) + count_run (nodes arena.old level (listed far))) < 2 ^ 32 }
-    ensures { MadeTree arena.old arena.new (middle.levels + 1) level result (trimmed K.Kind.kind (end side) (nodes arena.old level (listed_some near)) (rooted arena.old (suc level) middle) (nodes arena.old level (listed far)) (popped K.Kind.kind (end side) (rooted arena.old (suc level) middle))) }
+    requires near { Each level (nodes cells.old level (listed_some near)) }
+    requires middle { Formed (suc level) (rooted cells.old (suc level) middle) }
+    requires far { Each level (nodes cells.old level (listed far)) }
+    requires fits { count_run (nodes cells.old level (listed_some near)) + (count (rooted cells.old (suc level) middle) + count_run (nodes cells.old level (listed far))) < 2 ^ 32 }
+    ensures made { MadeTree cells.old cells.new (middle.levels + 1) level result (trimmed K.Kind.kind (end side) (nodes cells.old level (listed_some near)) (rooted cells.old (suc level) middle) (nodes cells.old level (listed far)) (popped K.Kind.kind (end side) (rooted cells.old (suc level) middle))) }
+    ensures sound { Sound cells.new free.new }
 {
     match near {
-        Some(fingers) => make_deep::<K>(arena, level, side, fingers, middle, far),
+        Some(fingers) => make_deep::<K>(cells, free, level, side, fingers, middle, far),
         None => {
-            let below = pop::<K>(arena, level + 1, side, middle);
-            refill::<K>(arena, level, side, below, far)
+            let below = pop::<K>(cells, free, level + 1, side, middle);
+            refill::<K>(cells, free, level, side, below, far)
         }
     }
 }

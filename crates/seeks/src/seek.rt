@@ -8,8 +8,7 @@ ghost use Rattle.cells.specs.Cells.{rooted};
 ghost use Rattle.seeks.specs.Sought.{sought, Inside, AlikeSought};
 
 use super::spot::locate;
-use cells::arena::Arena;
-use cells::cell::Root;
+use cells::cell::{Cell, Root};
 use cells::read::{weigh_nothing, weigh_tree};
 use kinds::Kind;
 
@@ -23,24 +22,24 @@ pub struct Found<T> {
 
 /// The question is put to totals of at least one item.
 pub fn seek<K: Kind>(
-    arena: &Arena<'_, K::Item, K::Total>,
+    cells: &[Cell<K::Item, K::Total>],
     question: K::Question,
     root: Root,
 ) -> Option<Found<K::Total>>
     requires shallow { root.levels < 64 }
-    requires formed { Formed 0 (rooted arena.now 0 root) }
-    requires fits { count (rooted arena.now 0 root) < 2 ^ 32 }
-    ensures right { Sound K.Kind.kind (rooted arena.now 0 root) → sought result ≡ first_met K.Kind.kind question (items (rooted arena.now 0 root)) }
-    ensures within { Inside (count (rooted arena.now 0 root)) result }
+    requires formed { Formed 0 (rooted cells.now 0 root) }
+    requires fits { count (rooted cells.now 0 root) < 2 ^ 32 }
+    ensures right { Sound K.Kind.kind (rooted cells.now 0 root) → sought result ≡ first_met K.Kind.kind question (items (rooted cells.now 0 root)) }
+    ensures within { Inside (count (rooted cells.now 0 root)) result }
 {
     if root.levels == 0 {
         return None;
     }
-    let whole = weigh_tree::<K>(arena, 0, root);
+    let whole = weigh_tree::<K>(cells, 0, root);
     if !K::meets(whole.total, question) {
         return None;
     }
-    let spot = locate::<K>(arena, 0, question, weigh_nothing::<K>(), root);
+    let spot = locate::<K>(cells, 0, question, weigh_nothing::<K>(), root);
     Some(Found {
         position: spot.passed.items,
         before: spot.passed.total,

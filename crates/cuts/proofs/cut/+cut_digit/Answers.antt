@@ -8,7 +8,7 @@ use Rattle.cuts.proofs.cut.+cut_digit.Goals as goal
 
 pub cut_digit-requires : goal.cut_digit-requires
 cut_digit-requires g t c κs within =
-    let h = c.args.arena.now in
+    let h = c.args.cells.now in
     let k = c.args.level in
     let d = c.args.digit in
     let rest = c.in-Some.rest in

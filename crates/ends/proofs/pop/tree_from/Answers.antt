@@ -12,7 +12,7 @@ use Rattle.ends.proofs.pop.tree_from.Goals as goal
 pub make_deep-requires : goal.make_deep-requires
 make_deep-requires g c =
     let k = c.args.level in
-    let h = c.args.arena.now in
+    let h = c.args.cells.now in
     let last = c.split_last-others.result.1 in
     let near = listed c.in-Some.near in
     let e : listed c.args.digit ≡ near ++ (last ∷ []) = c.split_last-others.ensures ∙ ap (λ o. listed_some o ++ (last ∷ [])) c.in-Some.is in
@@ -27,8 +27,8 @@ make_deep-requires g c =
       fits = omega (arith, ap count none, ap (λ ps. count_run (nodes h k ps)) e, ap (λ ps. count_run (nodes h k ps)) c.of.ensures, count_append h k near (last ∷ []), c.requires.fits);
     }
 
-pub returns-in-Some : goal.returns-in-Some
-returns-in-Some g c =
+pub returns-in-Some-clause-made : goal.returns-in-Some-clause-made
+returns-in-Some-clause-made g c =
     let d = c.in-Some.near in
     let last = c.split_last-others.result.1 in
     let e : listed c.args.digit ≡ listed d ++ (last ∷ []) = c.split_last-others.ensures ∙ ap (λ o. listed_some o ++ (last ∷ [])) c.in-Some.is in
@@ -37,4 +37,4 @@ returns-in-Some g c =
     let these = listed_length d in
     let top = c.args.digit.filled.1 in
     let low = d.filled.0 in
-    made_as 1 _ c.make_deep.ensures (tree_from_more g.K.Kind.kind (end c.args.side) c.args.arena.now c.args.level _ _ _ _ e c.of.ensures (omega arith) (omega arith)) (omega arith)
+    made_as 1 _ c.make_deep.ensures.made (tree_from_more g.K.Kind.kind (end c.args.side) c.args.cells.now c.args.level _ _ _ _ e c.of.ensures (omega arith) (omega arith)) (omega arith)

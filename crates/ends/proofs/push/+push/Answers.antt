@@ -9,13 +9,13 @@ use Rattle.ends.proofs.push.+push.Goals as goal
 pub make_deep-requires : goal.make_deep-requires
 make_deep-requires g t c =
     let k = c.args.level in
-    let h = c.args.arena.now in
+    let h = c.args.cells.now in
     let e = c.in-Single.ensures in
     let none = tree_none h 0 (suc k) 0 refl in
     let n = ap (λ ps. count_run (nodes h k ps)) c.of-near.ensures in
     let f = ap (λ ps. count_run (nodes h k ps)) c.of-far.ensures in
     record {
-      room = omega (arith, push_some g.K.Kind.kind (end c.args.side) c.args.arena.now c.args.level c.args.finger c.args.root c.requires.finger c.requires.formed, c.requires.room);
+      room = omega (arith, push_some g.K.Kind.kind (end c.args.side) c.args.cells.now c.args.level c.args.finger c.args.root c.requires.finger c.requires.formed, c.requires.room);
       shallow = omega (arith, c.requires.shallow);
       near = rw c.of-near.ensures (c.requires.finger, tt);
       middle = rw none tt;
@@ -23,9 +23,9 @@ make_deep-requires g t c =
       fits = omega (arith, n, f, ap count none, ap count e.0, c.requires.fits);
     }
 
-pub returns-then-near-lt4 : goal.returns-then-near-lt4
-returns-then-near-lt4 g t c =
-    push_roomy g.K.Kind.kind (end c.args.side) c.args.arena.now c.args.level c.args.finger c.args.root c.requires.finger c.requires.formed c.in-Deep.ensures _ c.make_deep-then-near-lt4.ensures c.prepend-more.ensures c.if-near-lt4.true
+pub returns-then-near-lt4-clause-made : goal.returns-then-near-lt4-clause-made
+returns-then-near-lt4-clause-made g t c =
+    push_roomy g.K.Kind.kind (end c.args.side) c.args.cells.now c.args.level c.args.finger c.args.root c.requires.finger c.requires.formed c.in-Deep.ensures _ c.make_deep-then-near-lt4.ensures.made c.prepend-more.ensures c.if-near-lt4.true
 
 pub push-below-requires : goal.push-below-requires
 push-below-requires g t c κs within =
@@ -33,7 +33,7 @@ push-below-requires g t c κs within =
     let step : suc c.args.level ≡ c.args.level + 1 = omega arith in
     let levels = c.in-Deep.ensures.levels in
     let less : c.in-Deep.middle.levels < c.args.root.levels = omega arith in
-    let spent = c.three_at-three.ensures.grown.spent in (
+    let spent = c.three_at-three.ensures.made.grown.spent in (
       search rules,
       (
         within.0,
@@ -44,10 +44,10 @@ push-below-requires g t c κs within =
             (
               within.1.1.1,
               (
-                omega (arith, full_levels g.K.Kind.kind (end c.args.side) c.args.arena.now c.args.level c.args.finger c.args.root c.requires.finger c.requires.formed c.in-Deep.ensures full c.three_at-three.ensures step, c.requires.room),
+                omega (arith, full_levels g.K.Kind.kind (end c.args.side) c.args.cells.now c.args.level c.args.finger c.args.root c.requires.finger c.requires.formed c.in-Deep.ensures full c.three_at-three.ensures.made step, c.requires.room),
                 (
                   omega (arith, c.requires.shallow),
-                  (middle_ready g.K.Kind.kind (end c.args.side) c.args.arena.now c.args.level c.args.finger c.args.root c.requires.finger c.requires.formed c.in-Deep.ensures full c.three_at-three.ensures step, (three_ready g.K.Kind.kind (end c.args.side) c.args.arena.now c.args.level c.args.finger c.args.root c.requires.finger c.requires.formed c.in-Deep.ensures full c.three_at-three.ensures step, omega (arith, carried_count g.K.Kind.kind (end c.args.side) c.args.arena.now c.args.level c.args.finger c.args.root c.requires.finger c.requires.formed c.in-Deep.ensures full c.three_at-three.ensures step, c.requires.fits))),
+                  (middle_ready g.K.Kind.kind (end c.args.side) c.args.cells.now c.args.level c.args.finger c.args.root c.requires.finger c.requires.formed c.in-Deep.ensures full c.three_at-three.ensures.made step, (three_ready g.K.Kind.kind (end c.args.side) c.args.cells.now c.args.level c.args.finger c.args.root c.requires.finger c.requires.formed c.in-Deep.ensures full c.three_at-three.ensures.made step, omega (arith, carried_count g.K.Kind.kind (end c.args.side) c.args.cells.now c.args.level c.args.finger c.args.root c.requires.finger c.requires.formed c.in-Deep.ensures full c.three_at-three.ensures.made step, c.requires.fits))),
                 ),
               ),
             ),
@@ -60,39 +60,39 @@ pub make_deep-requires-in-Deep : goal.make_deep-requires-in-Deep
 make_deep-requires-in-Deep g t c =
     let full = four_listed c.in-Deep.near c.if-near-lt4.false in
     let step : suc c.args.level ≡ c.args.level + 1 = omega arith in
-    let l = below_levels g.K.Kind.kind (end c.args.side) c.args.arena.now c.args.level c.args.finger c.args.root c.requires.finger c.requires.formed c.in-Deep.ensures full c.three_at-three.ensures step c.push-below.ensures _ c.of-two.ensures in
-    let spent = c.three_at-three.ensures.grown.spent in
-    let more = c.push-below.ensures.grown.spent in
+    let l = below_levels g.K.Kind.kind (end c.args.side) c.args.cells.now c.args.level c.args.finger c.args.root c.requires.finger c.requires.formed c.in-Deep.ensures full c.three_at-three.ensures.made step c.push-below.ensures.made _ c.of-two.ensures in
+    let spent = c.three_at-three.ensures.made.grown.spent in
+    let more = c.push-below.ensures.made.grown.spent in
     record {
-      room = omega (arith, full_levels g.K.Kind.kind (end c.args.side) c.args.arena.now c.args.level c.args.finger c.args.root c.requires.finger c.requires.formed c.in-Deep.ensures full c.three_at-three.ensures step, below_exact g.K.Kind.kind (end c.args.side) c.args.arena.now c.args.level c.args.finger c.args.root c.requires.finger c.requires.formed c.in-Deep.ensures full c.three_at-three.ensures step c.push-below.ensures _ c.of-two.ensures, below_some g.K.Kind.kind (end c.args.side) c.args.arena.now c.args.level c.args.finger c.args.root c.requires.finger c.requires.formed c.in-Deep.ensures full c.three_at-three.ensures step c.push-below.ensures _ c.of-two.ensures, spent, more, c.requires.room);
+      room = omega (arith, full_levels g.K.Kind.kind (end c.args.side) c.args.cells.now c.args.level c.args.finger c.args.root c.requires.finger c.requires.formed c.in-Deep.ensures full c.three_at-three.ensures.made step, below_exact g.K.Kind.kind (end c.args.side) c.args.cells.now c.args.level c.args.finger c.args.root c.requires.finger c.requires.formed c.in-Deep.ensures full c.three_at-three.ensures.made step c.push-below.ensures.made _ c.of-two.ensures, below_some g.K.Kind.kind (end c.args.side) c.args.cells.now c.args.level c.args.finger c.args.root c.requires.finger c.requires.formed c.in-Deep.ensures full c.three_at-three.ensures.made step c.push-below.ensures.made _ c.of-two.ensures, spent, more, c.requires.room);
       shallow = omega (arith, l, c.requires.shallow);
-      near = near_ready g.K.Kind.kind (end c.args.side) c.args.arena.now c.args.level c.args.finger c.args.root c.requires.finger c.requires.formed c.in-Deep.ensures full c.three_at-three.ensures step c.push-below.ensures _ c.of-two.ensures;
-      middle = below_ready g.K.Kind.kind (end c.args.side) c.args.arena.now c.args.level c.args.finger c.args.root c.requires.finger c.requires.formed c.in-Deep.ensures full c.three_at-three.ensures step c.push-below.ensures _ c.of-two.ensures;
-      far = far_ready g.K.Kind.kind (end c.args.side) c.args.arena.now c.args.level c.args.finger c.args.root c.requires.finger c.requires.formed c.in-Deep.ensures full c.three_at-three.ensures step c.push-below.ensures _ c.of-two.ensures;
-      fits = omega (arith, level_count g.K.Kind.kind (end c.args.side) c.args.arena.now c.args.level c.args.finger c.args.root c.requires.finger c.requires.formed c.in-Deep.ensures full c.three_at-three.ensures step c.push-below.ensures _ c.of-two.ensures, c.requires.fits);
+      near = near_ready g.K.Kind.kind (end c.args.side) c.args.cells.now c.args.level c.args.finger c.args.root c.requires.finger c.requires.formed c.in-Deep.ensures full c.three_at-three.ensures.made step c.push-below.ensures.made _ c.of-two.ensures;
+      middle = below_ready g.K.Kind.kind (end c.args.side) c.args.cells.now c.args.level c.args.finger c.args.root c.requires.finger c.requires.formed c.in-Deep.ensures full c.three_at-three.ensures.made step c.push-below.ensures.made _ c.of-two.ensures;
+      far = far_ready g.K.Kind.kind (end c.args.side) c.args.cells.now c.args.level c.args.finger c.args.root c.requires.finger c.requires.formed c.in-Deep.ensures full c.three_at-three.ensures.made step c.push-below.ensures.made _ c.of-two.ensures;
+      fits = omega (arith, level_count g.K.Kind.kind (end c.args.side) c.args.cells.now c.args.level c.args.finger c.args.root c.requires.finger c.requires.formed c.in-Deep.ensures full c.three_at-three.ensures.made step c.push-below.ensures.made _ c.of-two.ensures, c.requires.fits);
     }
 
-pub returns-in-Empty : goal.returns-in-Empty
-returns-in-Empty g t c = push_empty g.K.Kind.kind (end c.args.side) c.args.arena.now c.args.level c.args.finger c.args.root c.requires.finger c.requires.formed c.make_single.ensures c.in-Empty.ensures.0
+pub returns-in-Empty-clause-made : goal.returns-in-Empty-clause-made
+returns-in-Empty-clause-made g t c = push_empty g.K.Kind.kind (end c.args.side) c.args.cells.now c.args.level c.args.finger c.args.root c.requires.finger c.requires.formed c.make_single.ensures.made c.in-Empty.ensures.0
 
-pub returns-in-Single : goal.returns-in-Single
-returns-in-Single g t c =
-    push_single g.K.Kind.kind (end c.args.side) c.args.arena.now c.args.level c.args.finger c.args.root c.requires.finger c.requires.formed _ _ _ c.make_deep.ensures c.of-near.ensures c.of-far.ensures c.in-Single.ensures.0
+pub returns-in-Single-clause-made : goal.returns-in-Single-clause-made
+returns-in-Single-clause-made g t c =
+    push_single g.K.Kind.kind (end c.args.side) c.args.cells.now c.args.level c.args.finger c.args.root c.requires.finger c.requires.formed _ _ _ c.make_deep.ensures.made c.of-near.ensures c.of-far.ensures c.in-Single.ensures.0
 
-pub returns-else-near-lt4 : goal.returns-else-near-lt4
-returns-else-near-lt4 g t c =
+pub returns-else-near-lt4-clause-made : goal.returns-else-near-lt4-clause-made
+returns-else-near-lt4-clause-made g t c =
     let full = four_listed c.in-Deep.near c.if-near-lt4.false in
     let step : suc c.args.level ≡ c.args.level + 1 = omega arith in
-    push_fuller g.K.Kind.kind (end c.args.side) c.args.arena.now c.args.level c.args.finger c.args.root c.requires.finger c.requires.formed c.in-Deep.ensures full c.three_at-three.ensures step c.push-below.ensures _ c.of-two.ensures c.make_deep-in-Deep.ensures
+    push_fuller g.K.Kind.kind (end c.args.side) c.args.cells.now c.args.level c.args.finger c.args.root c.requires.finger c.requires.formed c.in-Deep.ensures full c.three_at-three.ensures.made step c.push-below.ensures.made _ c.of-two.ensures c.make_deep-in-Deep.ensures.made
 
 pub make_deep-requires-then-near-lt4 : goal.make_deep-requires-then-near-lt4
 make_deep-requires-then-near-lt4 g t c =
     let k = c.args.level in
-    let h = c.args.arena.now in
+    let h = c.args.cells.now in
     let seen = c.in-Deep.ensures in
     let n = ap (λ ps. count_run (nodes h k ps)) c.prepend-more.ensures in
     record {
-      room = omega (arith, push_some g.K.Kind.kind (end c.args.side) c.args.arena.now c.args.level c.args.finger c.args.root c.requires.finger c.requires.formed, c.requires.room);
+      room = omega (arith, push_some g.K.Kind.kind (end c.args.side) c.args.cells.now c.args.level c.args.finger c.args.root c.requires.finger c.requires.formed, c.requires.room);
       shallow = omega (arith, seen.levels, c.requires.shallow);
       near = rw c.prepend-more.ensures (c.requires.finger, seen.near_formed);
       middle = seen.middle_formed;

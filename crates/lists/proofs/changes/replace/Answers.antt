@@ -9,11 +9,11 @@ use Rattle.lists.proofs.changes.replace.Goals as goal
 
 pub replace-requires : goal.replace-requires
 replace-requires g c =
-    let n = count_at c.args.arena.now c.args.root c.requires.whole in
+    let n = count_at c.args.cells.now c.args.root c.requires.whole in
     record {
       room = omega (arith, c.requires.room);
-      shallow = omega (arith, root_shallow g.K.Kind.kind c.args.arena.now c.args.root c.requires.whole c.requires.fits);
-      formed = formed_at c.args.arena.now c.args.root c.requires.whole;
+      shallow = omega (arith, root_shallow g.K.Kind.kind c.args.cells.now c.args.root c.requires.whole c.requires.fits);
+      formed = formed_at c.args.cells.now c.args.root c.requires.whole;
       fits = omega (arith, n, c.requires.fits);
       within = omega (arith, n, c.requires.within);
     }
@@ -21,11 +21,11 @@ replace-requires g c =
 pub returns : goal.returns
 returns g c =
     let k = g.K.Kind.kind in
-    let t = tree_at c.args.arena.now c.args.root in
+    let t = tree_at c.args.cells.now c.args.root in
     let d = c.args.root.levels in
     let kept = replaced_keeps g.K.Kind.kind d t c.args.position c.args.item c.requires.whole c.requires.within in
     let formed = ((decides_formed d 0 (replaced g.K.Kind.kind c.args.item 0 c.args.position t)).0 kept.1).1 in
     record {
-      made = made_from (2 * d) (set (list_at c.args.arena.now c.args.root) c.args.position c.args.item) c.replace.ensures.made formed kept.0 (omega arith);
+      made = made_from (2 * d) (set (list_at c.args.cells.now c.args.root) c.args.position c.args.item) c.replace.ensures.made formed kept.0 (omega arith);
       right = λ sound fair. right_from g.K.Kind.kind c.replace.ensures.made (replaced_measures g.met.K.Kind.lawful t c.args.position c.args.item fair sound);
     }

@@ -6,7 +6,7 @@ use Rattle.lists.proofs.joining.join.Goals as goal
 pub append-requires : goal.append-requires
 append-requires g c =
     let k = g.K.Kind.kind in
-    let h = c.args.arena.now in
+    let h = c.args.cells.now in
     let levels = join_levels g.K.Kind.kind h c.args.left c.args.right c.requires.left c.requires.right in
     record {
       room = omega (arith, levels, c.requires.room);
@@ -20,6 +20,6 @@ append-requires g c =
 pub returns : goal.returns
 returns g c =
     record {
-      made = joined_made g.K.Kind.kind c.args.arena.now c.args.left c.args.right c.requires.left c.requires.right c.append.ensures;
-      right = joined_right g.K.Kind.kind c.args.arena.now c.args.left c.args.right c.requires.left c.requires.right c.append.ensures g.met.K.Kind.lawful;
+      made = joined_made g.K.Kind.kind c.args.cells.now c.args.left c.args.right c.requires.left c.requires.right c.append.ensures.made;
+      right = joined_right g.K.Kind.kind c.args.cells.now c.args.left c.args.right c.requires.left c.requires.right c.append.ensures.made g.met.K.Kind.lawful;
     }

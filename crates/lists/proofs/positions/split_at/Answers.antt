@@ -5,11 +5,11 @@ use Rattle.lists.proofs.positions.split_at.Goals as goal
 
 pub split-parts-requires : goal.split-parts-requires
 split-parts-requires g c =
-    let n = count_at c.args.arena.now c.args.root c.requires.whole in
+    let n = count_at c.args.cells.now c.args.root c.requires.whole in
     record {
       room = omega (arith, c.requires.room);
-      shallow = omega (arith, root_shallow g.K.Kind.kind c.args.arena.now c.args.root c.requires.whole c.requires.fits);
-      formed = formed_at c.args.arena.now c.args.root c.requires.whole;
+      shallow = omega (arith, root_shallow g.K.Kind.kind c.args.cells.now c.args.root c.requires.whole c.requires.fits);
+      formed = formed_at c.args.cells.now c.args.root c.requires.whole;
       fits = omega (arith, n, c.requires.fits);
       within = omega (arith, n, c.requires.within);
     }
@@ -17,16 +17,16 @@ split-parts-requires g c =
 pub push-right-requires : goal.push-right-requires
 push-right-requires g c =
     record {
-      room = push_room g.K.Kind.kind c.args.arena.now c.args.root c.requires.whole c.requires.fits c.args.position c.requires.within c.split-parts.result c.split-parts.ensures c.requires.room;
-      shallow = omega (arith, right_shallow g.K.Kind.kind c.args.arena.now c.args.root c.requires.whole c.requires.fits c.args.position c.requires.within c.split-parts.result c.split-parts.ensures);
-      formed = right_ready g.K.Kind.kind c.args.arena.now c.args.root c.requires.whole c.requires.fits c.args.position c.requires.within c.split-parts.result c.split-parts.ensures;
-      finger = finger_ready g.K.Kind.kind c.args.arena.now c.args.root c.requires.whole c.requires.fits c.args.position c.requires.within c.split-parts.result c.split-parts.ensures;
-      fits = push_fits g.K.Kind.kind c.args.arena.now c.args.root c.requires.whole c.requires.fits c.args.position c.requires.within c.split-parts.result c.split-parts.ensures;
+      room = push_room g.K.Kind.kind c.args.cells.now c.args.root c.requires.whole c.requires.fits c.args.position c.requires.within c.split-parts.result c.split-parts.ensures.made c.requires.room;
+      shallow = omega (arith, right_shallow g.K.Kind.kind c.args.cells.now c.args.root c.requires.whole c.requires.fits c.args.position c.requires.within c.split-parts.result c.split-parts.ensures.made);
+      formed = right_ready g.K.Kind.kind c.args.cells.now c.args.root c.requires.whole c.requires.fits c.args.position c.requires.within c.split-parts.result c.split-parts.ensures.made;
+      finger = finger_ready g.K.Kind.kind c.args.cells.now c.args.root c.requires.whole c.requires.fits c.args.position c.requires.within c.split-parts.result c.split-parts.ensures.made;
+      fits = push_fits g.K.Kind.kind c.args.cells.now c.args.root c.requires.whole c.requires.fits c.args.position c.requires.within c.split-parts.result c.split-parts.ensures.made;
     }
 
 pub returns : goal.returns
 returns g c =
     record {
-      made = parted_made g.K.Kind.kind c.args.arena.now c.args.root c.requires.whole c.requires.fits c.args.position c.requires.within c.split-parts.result c.split-parts.ensures c.push-right.ensures;
-      right = parted_right g.K.Kind.kind c.args.arena.now c.args.root c.requires.whole c.requires.fits c.args.position c.requires.within c.split-parts.result c.split-parts.ensures c.push-right.ensures g.met.K.Kind.lawful;
+      made = parted_made g.K.Kind.kind c.args.cells.now c.args.root c.requires.whole c.requires.fits c.args.position c.requires.within c.split-parts.result c.split-parts.ensures.made c.push-right.ensures.made;
+      right = parted_right g.K.Kind.kind c.args.cells.now c.args.root c.requires.whole c.requires.fits c.args.position c.requires.within c.split-parts.result c.split-parts.ensures.made c.push-right.ensures.made g.met.K.Kind.lawful;
     }

@@ -7,14 +7,14 @@ use Rattle.lists.proofs.seeking.seek.Goals as goal
 pub seek-requires : goal.seek-requires
 seek-requires g c =
     record {
-      shallow = omega (arith, root_shallow g.K.Kind.kind c.args.arena.now c.args.root c.requires.whole c.requires.fits);
-      formed = formed_at c.args.arena.now c.args.root c.requires.whole;
-      fits = omega (arith, count_at c.args.arena.now c.args.root c.requires.whole, c.requires.fits);
+      shallow = omega (arith, root_shallow g.K.Kind.kind c.args.cells.now c.args.root c.requires.whole c.requires.fits);
+      formed = formed_at c.args.cells.now c.args.root c.requires.whole;
+      fits = omega (arith, count_at c.args.cells.now c.args.root c.requires.whole, c.requires.fits);
     }
 
 pub returns : goal.returns
 returns g c =
     record {
       right = c.seek.ensures.right;
-      within = subst (λ n. Inside n c.seek.result) (count_at c.args.arena.now c.args.root c.requires.whole) c.seek.ensures.within;
+      within = subst (λ n. Inside n c.seek.result) (count_at c.args.cells.now c.args.root c.requires.whole) c.seek.ensures.within;
     }

@@ -8,17 +8,17 @@ pub pop-requires : goal.pop-requires
 pop-requires g c =
     record {
       room = c.requires.room;
-      shallow = omega (arith, pop_shallow g.K.Kind.kind (end c.args.side) c.args.arena.now c.args.root c.requires.whole c.requires.fits);
-      formed = formed_at c.args.arena.now c.args.root c.requires.whole;
-      fits = omega (arith, count_at c.args.arena.now c.args.root c.requires.whole, c.requires.fits);
+      shallow = omega (arith, pop_shallow g.K.Kind.kind (end c.args.side) c.args.cells.now c.args.root c.requires.whole c.requires.fits);
+      formed = formed_at c.args.cells.now c.args.root c.requires.whole;
+      fits = omega (arith, count_at c.args.cells.now c.args.root c.requires.whole, c.requires.fits);
     }
 
 pub item-requires : goal.item-requires
-item-requires g c = finger_ready g.K.Kind.kind (end c.args.side) c.args.arena.now c.args.root c.requires.whole c.in-Some.popped c.in-Some.ensures
+item-requires g c = finger_ready g.K.Kind.kind (end c.args.side) c.args.cells.now c.args.root c.requires.whole c.in-Some.popped c.in-Some.ensures
 
-pub returns : goal.returns
-returns g c =
+pub returns-clause-made : goal.returns-clause-made
+returns-clause-made g c =
     record {
-      given = took g.K.Kind.kind (end c.args.side) c.args.arena.now c.args.root c.requires.whole c.in-Some.popped c.in-Some.ensures c.item.result c.item.ensures;
-      right = took_right g.K.Kind.kind (end c.args.side) c.args.arena.now c.args.root c.requires.whole c.in-Some.popped c.in-Some.ensures c.item.result c.item.ensures g.met.K.Kind.lawful;
+      given = took g.K.Kind.kind (end c.args.side) c.args.cells.now c.args.root c.requires.whole c.in-Some.popped c.in-Some.ensures c.item.result c.item.ensures;
+      right = took_right g.K.Kind.kind (end c.args.side) c.args.cells.now c.args.root c.requires.whole c.in-Some.popped c.in-Some.ensures c.item.result c.item.ensures g.met.K.Kind.lawful;
     }

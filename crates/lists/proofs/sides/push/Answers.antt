@@ -5,7 +5,7 @@ use Rattle.lists.proofs.sides.push.Goals as goal
 
 pub push-requires : goal.push-requires
 push-requires g c =
-    let t = c.take-finger.ensures in
+    let t = c.take_cell-finger.ensures.taken in
     record {
       room = push_room g.K.Kind.kind (end c.args.side) c.args.item c.args.root c.requires.whole c.requires.fits t c.requires.room;
       shallow = omega (arith, push_shallow g.K.Kind.kind (end c.args.side) c.args.item c.args.root c.requires.whole c.requires.fits t);
@@ -14,10 +14,10 @@ push-requires g c =
       fits = push_fits g.K.Kind.kind (end c.args.side) c.args.item c.args.root c.requires.whole c.requires.fits t;
     }
 
-pub returns : goal.returns
-returns g c =
-    let t = c.take-finger.ensures in
+pub returns-clause-made : goal.returns-clause-made
+returns-clause-made g c =
+    let t = c.take_cell-finger.ensures.taken in
     record {
-      made = pushed_made g.K.Kind.kind (end c.args.side) c.args.item c.args.root c.requires.whole c.requires.fits t c.push.ensures;
-      right = pushed_right g.K.Kind.kind (end c.args.side) c.args.item c.args.root c.requires.whole c.requires.fits t c.push.ensures g.met.K.Kind.lawful;
+      made = pushed_made g.K.Kind.kind (end c.args.side) c.args.item c.args.root c.requires.whole c.requires.fits t c.push.ensures.made;
+      right = pushed_right g.K.Kind.kind (end c.args.side) c.args.item c.args.root c.requires.whole c.requires.fits t c.push.ensures.made g.met.K.Kind.lawful;
     }

@@ -8,7 +8,7 @@ use Rattle.places.proofs.replace.+node.Goals as goal
 
 pub replace_in-replace_node-finger-requires : goal.replace_in-replace_node-finger-requires
 replace_in-replace_node-finger-requires g t c κs within =
-    let h = c.args.arena.now in
+    let h = c.args.cells.now in
     let k = c.args.level in
     let ps = listed c.args.digit in
     let less : 2 * k < 2 * k + 1 = omega arith in
@@ -19,28 +19,28 @@ replace_in-replace_node-finger-requires g t c κs within =
 
 pub replace_in-with_finger-requires : goal.replace_in-with_finger-requires
 replace_in-with_finger-requires g t c =
-    omega (arith, index_within c.args.arena.now c.args.level c.args.position (listed c.args.digit) c.requires.formed c.requires.within c.cut_digit-cut.result c.cut_digit-cut.ensures, c.count_of.ensures.is)
+    omega (arith, index_within c.args.cells.now c.args.level c.args.position (listed c.args.digit) c.requires.formed c.requires.within c.cut_digit-cut.result c.cut_digit-cut.ensures, c.count_of.ensures.is)
 
-pub replace_in-returns : goal.replace_in-returns
-replace_in-returns g t c =
-    run_made g.K.Kind.kind c.args.item c.args.arena.now c.args.level (listed c.args.digit) c.requires.formed c.args.position c.requires.within c.cut_digit-cut.result c.cut_digit-cut.ensures c.replace_node-finger.ensures _ c.count_of.ensures.is _ c.with_finger.ensures
+pub replace_in-returns-clause-made : goal.replace_in-returns-clause-made
+replace_in-returns-clause-made g t c =
+    run_made g.K.Kind.kind c.args.item c.args.cells.now c.args.level (listed c.args.digit) c.requires.formed c.args.position c.requires.within c.cut_digit-cut.result c.cut_digit-cut.ensures c.replace_node-finger.ensures.made _ c.count_of.ensures.is _ c.with_finger.ensures
 
-pub replace_node-returns-then-level-eq0 : goal.replace_node-returns-then-level-eq0
-replace_node-returns-then-level-eq0 g t c = leaf_made g.K.Kind.kind c.args.item c.args.arena.now c.args.level c.args.position (node c.args.arena.now c.args.level c.args.at) c.if-level-eq0.true c.take.ensures
+pub replace_node-returns-then-level-eq0-clause-made : goal.replace_node-returns-then-level-eq0-clause-made
+replace_node-returns-then-level-eq0-clause-made g t c = leaf_made g.K.Kind.kind c.args.item c.args.cells.now c.args.level c.args.position (node c.args.cells.now c.args.level c.args.at) c.if-level-eq0.true c.take_cell.ensures.taken
 
 pub replace_node-make_node-requires-clause-formed :
     goal.replace_node-make_node-requires-clause-formed
 replace_node-make_node-requires-clause-formed g t c =
-    let n = parts_count c.args.arena.now (c.args.level - 1) c.args.level c.args.at (omega arith) c.requires.formed (listed c.parts-parts.result) c.parts-parts.ensures in
-    let v = parts_ready c.args.arena.now (c.args.level - 1) c.args.level c.args.at (omega arith) c.requires.formed (listed c.parts-parts.result) c.parts-parts.ensures in
-    swapped_ready g.K.Kind.kind c.args.item c.args.arena.now (c.args.level - 1) (listed c.parts-parts.result) v c.args.position (omega (arith, n, c.requires.within)) c.replace_in-changed.ensures
+    let n = parts_count c.args.cells.now (c.args.level - 1) c.args.level c.args.at (omega arith) c.requires.formed (listed c.fingers_of-parts.result) c.fingers_of-parts.ensures in
+    let v = parts_ready c.args.cells.now (c.args.level - 1) c.args.level c.args.at (omega arith) c.requires.formed (listed c.fingers_of-parts.result) c.fingers_of-parts.ensures in
+    swapped_ready g.K.Kind.kind c.args.item c.args.cells.now (c.args.level - 1) (listed c.fingers_of-parts.result) v c.args.position (omega (arith, n, c.requires.within)) c.replace_in-changed.ensures.made
 
 pub replace_node-make_node-requires-clause-fits : goal.replace_node-make_node-requires-clause-fits
 replace_node-make_node-requires-clause-fits g t c =
-    let n = parts_count c.args.arena.now (c.args.level - 1) c.args.level c.args.at (omega arith) c.requires.formed (listed c.parts-parts.result) c.parts-parts.ensures in
-    let v = parts_ready c.args.arena.now (c.args.level - 1) c.args.level c.args.at (omega arith) c.requires.formed (listed c.parts-parts.result) c.parts-parts.ensures in
-    omega (arith, swapped_count g.K.Kind.kind c.args.item c.args.arena.now (c.args.level - 1) (listed c.parts-parts.result) v c.args.position (omega (arith, n, c.requires.within)) c.replace_in-changed.ensures, n, c.requires.fits)
+    let n = parts_count c.args.cells.now (c.args.level - 1) c.args.level c.args.at (omega arith) c.requires.formed (listed c.fingers_of-parts.result) c.fingers_of-parts.ensures in
+    let v = parts_ready c.args.cells.now (c.args.level - 1) c.args.level c.args.at (omega arith) c.requires.formed (listed c.fingers_of-parts.result) c.fingers_of-parts.ensures in
+    omega (arith, swapped_count g.K.Kind.kind c.args.item c.args.cells.now (c.args.level - 1) (listed c.fingers_of-parts.result) v c.args.position (omega (arith, n, c.requires.within)) c.replace_in-changed.ensures.made, n, c.requires.fits)
 
-pub replace_node-returns : goal.replace_node-returns
-replace_node-returns g t c =
-    node_made g.K.Kind.kind c.args.item c.args.arena.now (c.args.level - 1) c.args.level c.args.at c.args.position (omega arith) (listed c.parts-parts.result) c.parts-parts.ensures c.replace_in-changed.ensures (omega arith) c.make_node.ensures
+pub replace_node-returns-clause-made : goal.replace_node-returns-clause-made
+replace_node-returns-clause-made g t c =
+    node_made g.K.Kind.kind c.args.item c.args.cells.now (c.args.level - 1) c.args.level c.args.at c.args.position (omega arith) (listed c.fingers_of-parts.result) c.fingers_of-parts.ensures c.replace_in-changed.ensures.made (omega arith) c.make_node.ensures.made

@@ -6,8 +6,8 @@ use Rattle.cells.proofs.Frames.{grown_none}
 use Rattle.cells.proofs.Opened.{tree_none}
 use Rattle.splits.proofs.some.tree_some.Goals as goal
 
-pub returns-in-None : goal.returns-in-None
-returns-in-None g c = record {
+pub returns-in-None-clause-made : goal.returns-in-None-clause-made
+returns-in-None-clause-made g c = record {
   grown = grown_none 1;
-  reads = tree_none c.args.arena.now 0 c.args.level 0 refl ∙ sym (ap (λ run. tree_of g.K.Kind.kind (end c.args.side) (nodes c.args.arena.now c.args.level (listed_some run))) c.in-None.is);
+  reads = tree_none c.args.cells.now 0 c.args.level 0 refl ∙ sym (ap (λ run. tree_of g.K.Kind.kind (end c.args.side) (nodes c.args.cells.now c.args.level (listed_some run))) c.in-None.is);
 }
