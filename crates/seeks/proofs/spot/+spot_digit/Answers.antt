@@ -20,19 +20,19 @@ spot_digit-requires g t c κs within =
     let less : others.count < d.count = omega (arith, ap length e, listed_length d, listed_length others) in
     (search rules, (within.0, (within.1.0, (within.1.1.0, (within.1.1.1, (v.1, omega (arith, n, c.toward-next.ensures.items_are, c.weigh-weight.ensures.items_are, c.requires.fits)))))))
 
-pub returns-else-meets-clause-made : goal.returns-else-meets-clause-made
-returns-else-meets-clause-made g t c =
+pub returns-else-meets : goal.returns-else-meets
+returns-else-meets g t c =
     let x = c.split_first-finger.result.0 in
     let e : listed c.args.digit ≡ x ∷ listed c.in-Some.others = c.split_first-finger.ensures ∙ ap (λ o. x ∷ listed_some o) c.in-Some.is in
     spot_later {k = g.K.Kind.kind} g.met.K.Kind.lawful c.args.cells.now c.args.level c.args.question c.args.passed x (listed c.args.digit) c.requires.formed _ e _ _ c.weigh-weight.ensures c.toward-next.ensures c.if-meets.ensures _ c.spot_digit.ensures
 
-pub returns-then-meets-clause-made : goal.returns-then-meets-clause-made
-returns-then-meets-clause-made g t c =
+pub returns-then-meets : goal.returns-then-meets
+returns-then-meets g t c =
     let x = c.split_first-finger.result.0 in
     let e : listed c.args.digit ≡ x ∷ listed c.in-Some.others = c.split_first-finger.ensures ∙ ap (λ o. x ∷ listed_some o) c.in-Some.is in
     spot_here {k = g.K.Kind.kind} g.met.K.Kind.lawful c.args.cells.now c.args.level c.args.question c.args.passed x (listed c.args.digit) c.requires.formed _ e _ _ c.weigh-weight.ensures c.toward-next.ensures c.if-meets.ensures
 
-pub returns-in_default-clause-made : goal.returns-in_default-clause-made
-returns-in_default-clause-made g t c =
+pub returns-in_default : goal.returns-in_default
+returns-in_default g t c =
     let x = c.split_first-finger.result.0 in
     spot_last {k = g.K.Kind.kind} g.met.K.Kind.lawful c.args.cells.now c.args.level c.args.question c.args.passed x (listed c.args.digit) c.requires.formed _ c.in_default.not-Some c.split_first-finger.ensures
