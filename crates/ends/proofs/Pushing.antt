@@ -4,10 +4,11 @@ use Rattle.std.proofs.lemmas.List.{length-map}
 use Rattle.model.specs.Tree.{Node, Tree, none, single, deep, torn, Side, front, back, count_node, count_run, count, levels}
 use Rattle.kinds.specs.Algebra.{Algebra}
 use Rattle.model.specs.Ends.{three_at, deep_at, push}
+use Rattle.model.specs.Replace.{regroup}
 use Rattle.model.specs.Forms.{FormedNode, Each, Formed}
 use Rattle.model.proofs.Sides.{levels_deep_at, formed_three_at}
 use Rattle.model.proofs.Pushing.{push_formed, push_levels}
-use Rattle.cells.specs.Cells.{node, nodes, tree, rooted}
+use Rattle.cells.specs.Cells.{in_order, node, nodes, tree, rooted}
 use Rattle.cells.specs.Fingers.{listed, front_of}
 use Rattle.cells.specs.Chain.{Extends}
 use Rattle.cells.specs.Made.{MadeNode, MadeTree, deep_of, SeenDeep}
@@ -164,3 +165,17 @@ module _ {I T Q : Type 0} (q : Algebra I T Q) (s : Side) (h : List (Cell I T)) (
               record { grown = grown_more _ three.grown (grown_more (2 * r.levels) below.grown u.grown (omega arith)) (omega arith); reads = u.reads } in
               let some = below_some in
               settled all (rw (near_kept, far_kept, below_reads) (sym full_is)) (omega arith)
+
+-- the fingers x, y and z of a side, listed from left to right
+module _ {I T Q : Type 0} (q : Algebra I T Q) (h : List (Cell I T)) (k : ℕ) where
+  pub sided_formed : (s : Side) (x y z : ℕ) (o : ℕ × ℕ) → o ≡ in_order s x z → (ps : List ℕ) → ps ≡ o.0 ∷ y ∷ o.1 ∷ [] → FormedNode k (node h k x) → FormedNode k (node h k y) → FormedNode k (node h k z) → Each k (nodes h k ps)
+  sided_formed front x y z o i ps e u v w = rw (e, i) (u, (v, (w, tt)))
+  sided_formed back x y z o i ps e u v w = rw (e, i) (w, (v, (u, tt)))
+
+  pub sided_count : (s : Side) (x y z : ℕ) (o : ℕ × ℕ) → o ≡ in_order s x z → (ps : List ℕ) → ps ≡ o.0 ∷ y ∷ o.1 ∷ [] → count_run (nodes h k ps) ≡ count_node (node h k x) + (count_node (node h k y) + count_node (node h k z))
+  sided_count front x y z o i ps e = rw (e, i) (omega arith)
+  sided_count back x y z o i ps e = rw (e, i) (omega arith)
+
+  pub sided_node : (s : Side) (x y z : ℕ) (o : ℕ × ℕ) → o ≡ in_order s x z → (ps : List ℕ) → ps ≡ o.0 ∷ y ∷ o.1 ∷ [] → regroup q (nodes h k ps) ≡ three_at q s (node h k x) (node h k y) (node h k z)
+  sided_node front x y z o i ps e = rw (e, i) refl
+  sided_node back x y z o i ps e = rw (e, i) refl

@@ -20,6 +20,7 @@ make_deep-requires g c =
     let w = each_append h k near (last ∷ []) (subst (λ ps. Each k (nodes h k ps)) e c.requires.formed) in
     record {
       room = c.requires.room;
+      sound = c.requires.sound;
       shallow = omega (arith, c.requires.shallow);
       near = w.0;
       middle = rw none tt;

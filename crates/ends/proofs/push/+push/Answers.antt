@@ -16,6 +16,7 @@ make_deep-requires g t c =
     let f = ap (λ ps. count_run (nodes h k ps)) c.of-far.ensures in
     record {
       room = omega (arith, push_some g.K.Kind.kind (end c.args.side) c.args.cells.now c.args.level c.args.finger c.args.root c.requires.finger c.requires.formed, c.requires.room);
+      sound = c.requires.sound;
       shallow = omega (arith, c.requires.shallow);
       near = rw c.of-near.ensures (c.requires.finger, tt);
       middle = rw none tt;
@@ -26,6 +27,10 @@ make_deep-requires g t c =
 pub returns-then-near-lt4-clause-made : goal.returns-then-near-lt4-clause-made
 returns-then-near-lt4-clause-made g t c =
     push_roomy g.K.Kind.kind (end c.args.side) c.args.cells.now c.args.level c.args.finger c.args.root c.requires.finger c.requires.formed c.in-Deep.ensures _ c.make_deep-then-near-lt4.ensures.made c.prepend-more.ensures c.if-near-lt4.true
+
+pub three_at-three-requires-clause-room : goal.three_at-three-requires-clause-room
+three_at-three-requires-clause-room g t c =
+    omega (arith, push_some g.K.Kind.kind (end c.args.side) c.args.cells.now c.args.level c.args.finger c.args.root c.requires.finger c.requires.formed, c.requires.room)
 
 pub push-below-requires : goal.push-below-requires
 push-below-requires g t c κs within =
@@ -46,8 +51,11 @@ push-below-requires g t c κs within =
               (
                 omega (arith, full_levels g.K.Kind.kind (end c.args.side) c.args.cells.now c.args.level c.args.finger c.args.root c.requires.finger c.requires.formed c.in-Deep.ensures full c.three_at-three.ensures.made step, c.requires.room),
                 (
-                  omega (arith, c.requires.shallow),
-                  (middle_ready g.K.Kind.kind (end c.args.side) c.args.cells.now c.args.level c.args.finger c.args.root c.requires.finger c.requires.formed c.in-Deep.ensures full c.three_at-three.ensures.made step, (three_ready g.K.Kind.kind (end c.args.side) c.args.cells.now c.args.level c.args.finger c.args.root c.requires.finger c.requires.formed c.in-Deep.ensures full c.three_at-three.ensures.made step, omega (arith, carried_count g.K.Kind.kind (end c.args.side) c.args.cells.now c.args.level c.args.finger c.args.root c.requires.finger c.requires.formed c.in-Deep.ensures full c.three_at-three.ensures.made step, c.requires.fits))),
+                  c.three_at-three.ensures.sound,
+                  (
+                    omega (arith, c.requires.shallow),
+                    (middle_ready g.K.Kind.kind (end c.args.side) c.args.cells.now c.args.level c.args.finger c.args.root c.requires.finger c.requires.formed c.in-Deep.ensures full c.three_at-three.ensures.made step, (three_ready g.K.Kind.kind (end c.args.side) c.args.cells.now c.args.level c.args.finger c.args.root c.requires.finger c.requires.formed c.in-Deep.ensures full c.three_at-three.ensures.made step, omega (arith, carried_count g.K.Kind.kind (end c.args.side) c.args.cells.now c.args.level c.args.finger c.args.root c.requires.finger c.requires.formed c.in-Deep.ensures full c.three_at-three.ensures.made step, c.requires.fits))),
+                  ),
                 ),
               ),
             ),
@@ -65,6 +73,7 @@ make_deep-requires-in-Deep g t c =
     let more = c.push-below.ensures.made.grown.spent in
     record {
       room = omega (arith, full_levels g.K.Kind.kind (end c.args.side) c.args.cells.now c.args.level c.args.finger c.args.root c.requires.finger c.requires.formed c.in-Deep.ensures full c.three_at-three.ensures.made step, below_exact g.K.Kind.kind (end c.args.side) c.args.cells.now c.args.level c.args.finger c.args.root c.requires.finger c.requires.formed c.in-Deep.ensures full c.three_at-three.ensures.made step c.push-below.ensures.made _ c.of-two.ensures, below_some g.K.Kind.kind (end c.args.side) c.args.cells.now c.args.level c.args.finger c.args.root c.requires.finger c.requires.formed c.in-Deep.ensures full c.three_at-three.ensures.made step c.push-below.ensures.made _ c.of-two.ensures, spent, more, c.requires.room);
+      sound = c.push-below.ensures.sound;
       shallow = omega (arith, l, c.requires.shallow);
       near = near_ready g.K.Kind.kind (end c.args.side) c.args.cells.now c.args.level c.args.finger c.args.root c.requires.finger c.requires.formed c.in-Deep.ensures full c.three_at-three.ensures.made step c.push-below.ensures.made _ c.of-two.ensures;
       middle = below_ready g.K.Kind.kind (end c.args.side) c.args.cells.now c.args.level c.args.finger c.args.root c.requires.finger c.requires.formed c.in-Deep.ensures full c.three_at-three.ensures.made step c.push-below.ensures.made _ c.of-two.ensures;
@@ -93,6 +102,7 @@ make_deep-requires-then-near-lt4 g t c =
     let n = ap (λ ps. count_run (nodes h k ps)) c.prepend-more.ensures in
     record {
       room = omega (arith, push_some g.K.Kind.kind (end c.args.side) c.args.cells.now c.args.level c.args.finger c.args.root c.requires.finger c.requires.formed, c.requires.room);
+      sound = c.requires.sound;
       shallow = omega (arith, seen.levels, c.requires.shallow);
       near = rw c.prepend-more.ensures (c.requires.finger, seen.near_formed);
       middle = seen.middle_formed;

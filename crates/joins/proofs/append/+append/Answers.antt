@@ -14,6 +14,14 @@ use Rattle.joins.proofs.Joining.{base_room, base_made, onto_empty, onto_single, 
 use Rattle.joins.proofs.append.+append.Goals as goal
 
 -- the left tree is empty
+pub push_run-requires-clause-room : goal.push_run-requires-clause-room
+push_run-requires-clause-room g t c =
+    let q = g.K.Kind.kind in
+    let h = c.args.cells.now in
+    let k = c.args.level in
+    let ls = listed_some c.args.loose in
+    base_room (free_cells h) ls _ _ (onto_empty q h k (rooted h k c.args.left) (nodes h k ls) (rooted h k c.args.right) c.in-Empty.ensures.0) (omega (arith, some_length c.args.loose)) c.requires.room
+
 pub returns-in-Empty-clause-made : goal.returns-in-Empty-clause-made
 returns-in-Empty-clause-made g t c =
     let q = g.K.Kind.kind in
@@ -23,6 +31,15 @@ returns-in-Empty-clause-made g t c =
     base_made ls _ _ (onto_empty q h k (rooted h k c.args.left) (nodes h k ls) (rooted h k c.args.right) c.in-Empty.ensures.0) (omega (arith, some_length c.args.loose)) c.push_run.ensures.made
 
 -- the left tree is a single finger
+pub push_after-requires-clause-room : goal.push_after-requires-clause-room
+push_after-requires-clause-room g t c =
+    let q = g.K.Kind.kind in
+    let h = c.args.cells.now in
+    let k = c.args.level in
+    let ls = listed_some c.args.loose in
+    let x = c.in-Single.finger in
+    base_room (free_cells h) (x ∷ ls) _ _ (onto_single q h k (rooted h k c.args.left) x ls (rooted h k c.args.right) c.in-Single.ensures.0) (omega (arith, some_length c.args.loose)) c.requires.room
+
 pub returns-in-Single-clause-made : goal.returns-in-Single-clause-made
 returns-in-Single-clause-made g t c =
     let q = g.K.Kind.kind in
@@ -44,6 +61,7 @@ push_run-requires-in-Empty-view g t c =
     let e = with_empty q h k ls turned o (rooted h k c.args.left) _ _ _ _ _ (rooted h k c.args.right) c.in-Deep.ensures.is c.in-Empty-view.ensures.0 in
     record {
       room = base_room (free_cells c.args.cells.now) turned _ _ e (omega (arith, some_length c.reversed_some.result)) c.requires.room;
+      sound = c.requires.sound;
       shallow = omega (arith, ap levels e, c.requires.shallow);
       formed = c.requires.left;
       run = turned_formed h k ls turned o c.requires.loose;
@@ -74,6 +92,7 @@ push_after-requires-in-Single-view g t c =
     let e = with_single q h k ls turned o (rooted h k c.args.left) _ _ _ _ _ (rooted h k c.args.right) x c.in-Deep.ensures.is is in
     record {
       room = base_room (free_cells c.args.cells.now) (x ∷ turned) _ _ e (omega (arith, some_length c.reversed_some-in-Single-view.result)) c.requires.room;
+      sound = c.requires.sound;
       shallow = omega (arith, ap levels e, c.requires.shallow);
       formed = c.requires.left;
       run = (subst (Formed k) is c.requires.right, turned_formed h k ls turned o c.requires.loose);
@@ -99,6 +118,7 @@ group_row-grouped-requires g t c =
     let e : ps ≡ onto (listed c.in-Deep.back) [] ++ (ls ++ listed c.in-Deep-view.near) = ap (λ xs. xs ++ (ls ++ listed c.in-Deep-view.near)) c.reversed.ensures in
     record {
       room = omega (arith, row_length (record { first = Some c.reversed.result; second = c.args.loose; third = Some c.in-Deep-view.near }), joined_depth g.K.Kind.kind c.args.cells.now c.args.level c.args.left c.args.right ls c.requires.loose c.in-Deep.ensures c.in-Deep-view.ensures ps e, c.requires.room);
+      sound = c.requires.sound;
       long = row_long g.K.Kind.kind c.args.cells.now c.args.level c.args.left c.args.right ls c.requires.loose c.in-Deep.ensures c.in-Deep-view.ensures ps e;
       formed = row_formed g.K.Kind.kind c.args.cells.now c.args.level c.args.left c.args.right ls c.requires.loose c.in-Deep.ensures c.in-Deep-view.ensures ps e;
       fits = omega (arith, row_counts g.K.Kind.kind c.args.cells.now c.args.level c.args.left c.args.right ls c.requires.loose c.in-Deep.ensures c.in-Deep-view.ensures ps e, c.in-Deep.ensures.counts, c.in-Deep-view.ensures.counts, c.requires.fits);
@@ -117,7 +137,7 @@ append-below-requires g t c κs within =
     let inner = ap levels (inner_is g.K.Kind.kind c.args.cells.now c.args.level c.args.left c.args.right ls c.requires.loose c.in-Deep.ensures c.in-Deep-view.ensures ps e gs c.group_row-grouped.ensures.made step) in
     let lower = c.in-Deep.ensures.levels in
     let less : c.in-Deep.inner.levels < c.args.left.levels = omega (arith, lower) in
-    (search rules, (within.0, (within.1.0, (within.1.1.0, (within.1.1.1, (omega (arith, depth, inner, short, spent, c.requires.room), (omega (arith, depth, inner, c.requires.shallow), (left_ready g.K.Kind.kind c.args.cells.now c.args.level c.args.left c.args.right ls c.requires.loose c.in-Deep.ensures c.in-Deep-view.ensures ps e gs c.group_row-grouped.ensures.made step, (groups_ready g.K.Kind.kind c.args.cells.now c.args.level c.args.left c.args.right ls c.requires.loose c.in-Deep.ensures c.in-Deep-view.ensures ps e gs c.group_row-grouped.ensures.made step, (right_ready g.K.Kind.kind c.args.cells.now c.args.level c.args.left c.args.right ls c.requires.loose c.in-Deep.ensures c.in-Deep-view.ensures ps e gs c.group_row-grouped.ensures.made step, omega (arith, inner_count g.K.Kind.kind c.args.cells.now c.args.level c.args.left c.args.right ls c.requires.loose c.in-Deep.ensures c.in-Deep-view.ensures ps e gs c.group_row-grouped.ensures.made step, c.requires.fits)))))))))))
+    (search rules, (within.0, (within.1.0, (within.1.1.0, (within.1.1.1, (omega (arith, depth, inner, short, spent, c.requires.room), (c.group_row-grouped.ensures.sound, (omega (arith, depth, inner, c.requires.shallow), (left_ready g.K.Kind.kind c.args.cells.now c.args.level c.args.left c.args.right ls c.requires.loose c.in-Deep.ensures c.in-Deep-view.ensures ps e gs c.group_row-grouped.ensures.made step, (groups_ready g.K.Kind.kind c.args.cells.now c.args.level c.args.left c.args.right ls c.requires.loose c.in-Deep.ensures c.in-Deep-view.ensures ps e gs c.group_row-grouped.ensures.made step, (right_ready g.K.Kind.kind c.args.cells.now c.args.level c.args.left c.args.right ls c.requires.loose c.in-Deep.ensures c.in-Deep-view.ensures ps e gs c.group_row-grouped.ensures.made step, omega (arith, inner_count g.K.Kind.kind c.args.cells.now c.args.level c.args.left c.args.right ls c.requires.loose c.in-Deep.ensures c.in-Deep-view.ensures ps e gs c.group_row-grouped.ensures.made step, c.requires.fits))))))))))))
 
 pub make_deep-requires : goal.make_deep-requires
 make_deep-requires g t c =
@@ -133,6 +153,7 @@ make_deep-requires g t c =
     let below = below_depth g.K.Kind.kind c.args.cells.now c.args.level c.args.left c.args.right ls c.requires.loose c.in-Deep.ensures c.in-Deep-view.ensures ps e gs c.group_row-grouped.ensures.made step c.append-below.ensures.made in
     record {
       room = omega (arith, depth, below, short, spent, more, c.requires.room);
+      sound = c.append-below.ensures.sound;
       shallow = omega (arith, depth, below, c.requires.shallow);
       near = front_ready g.K.Kind.kind c.args.cells.now c.args.level c.args.left c.args.right ls c.requires.loose c.in-Deep.ensures c.in-Deep-view.ensures ps e gs c.group_row-grouped.ensures.made step c.append-below.ensures.made;
       middle = below_ready g.K.Kind.kind c.args.cells.now c.args.level c.args.left c.args.right ls c.requires.loose c.in-Deep.ensures c.in-Deep-view.ensures ps e gs c.group_row-grouped.ensures.made step c.append-below.ensures.made;

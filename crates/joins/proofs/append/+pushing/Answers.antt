@@ -15,6 +15,7 @@ push_after-push_run-more-requires g t c κs within =
 pub push_after-push-requires : goal.push_after-push-requires
 push_after-push-requires g t c = record {
   room = next_room g.K.Kind.kind (end c.args.side) c.args.cells.now c.args.level c.args.root c.requires.formed (c.args.finger ∷ listed_some c.args.others) c.requires.run c.args.finger (listed_some c.args.others) refl c.push_run-more.ensures.made c.requires.room;
+  sound = c.push_run-more.ensures.sound;
   shallow = omega (arith, others_depth g.K.Kind.kind (end c.args.side) c.args.cells.now c.args.level c.args.root c.requires.formed (c.args.finger ∷ listed_some c.args.others) c.requires.run c.args.finger (listed_some c.args.others) refl c.push_run-more.ensures.made, others_levels g.K.Kind.kind (end c.args.side) c.args.cells.now c.args.level c.args.root c.requires.formed (c.args.finger ∷ listed_some c.args.others) c.requires.run c.args.finger (listed_some c.args.others) refl, c.requires.shallow);
   formed = next_formed g.K.Kind.kind (end c.args.side) c.args.cells.now c.args.level c.args.root c.requires.formed (c.args.finger ∷ listed_some c.args.others) c.requires.run c.args.finger (listed_some c.args.others) refl c.push_run-more.ensures.made;
   finger = first_ready g.K.Kind.kind (end c.args.side) c.args.cells.now c.args.level c.args.root c.requires.formed (c.args.finger ∷ listed_some c.args.others) c.requires.run c.args.finger (listed_some c.args.others) refl c.push_run-more.ensures.made;
