@@ -1,7 +1,7 @@
 -- Where the item at a position is. Assumes nothing.
 use Rattle.std.proofs.Common.{◌≡◌, ℕ, suc, ◌+◌, ◌<◌, List, [], ◌++◌, length, get_or, sym, ap, ◌∙◌, subst, append-nil, arith}
 use Rattle.std.proofs.lemmas.List.{get_or_append_left, get_or-append-add}
-use Rattle.model.specs.Tree.{front, back, run, items, count_node, count_run, count}
+use Rattle.model.specs.Tree.{front, back, run, items_node, items, count_node, count_run, count}
 use Rattle.model.specs.Ends.{fingers}
 use Rattle.model.specs.Append.{onto}
 use Rattle.model.specs.Forms.{FormedNode, Each}
@@ -26,6 +26,9 @@ module _ {I T : Type 0} (h : List (Cell I T)) (k k' p : ℕ) (s : suc k ≡ k') 
 
   pub parts_count : count_run (nodes h k ps) ≡ count_node (node h k' p)
   parts_count = ap count_run e ∙ count_fingers front k (node h (suc k) p) node_down ∙ ap (λ j. count_node (node h j p)) s
+
+  pub parts_items : run front (nodes h k ps) ≡ items_node (node h k' p)
+  parts_items = ap (run front) e ∙ (fingers_formed front k (node h (suc k) p) node_down).1 ∙ ap (λ j. items_node (node h j p)) s
 
 -- a level, from the left: the items at its front, in its middle and at its back
 module _ {I T : Type 0} (h : List (Cell I T)) (k : ℕ) (root : Root) {f b : Filled} {m : Root} (seen : SeenDeep h k front root f m b) (i j : ℕ) (x : I) where

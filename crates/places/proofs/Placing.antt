@@ -6,9 +6,9 @@ use Rattle.kinds.specs.Algebra.{Algebra}
 use Rattle.model.specs.Ends.{fingers}
 use Rattle.model.specs.Split.{cut}
 use Rattle.model.specs.Replace.{swap, regroup, replaced_node}
-use Rattle.model.specs.Forms.{Each}
+use Rattle.model.specs.Forms.{FormedNode, Each}
 use Rattle.model.proofs.Forms.{count_run_is}
-use Rattle.model.proofs.Replacing.{SwappedAt, swap_cut, run_keeps}
+use Rattle.model.proofs.Replacing.{SwappedAt, swap_cut, run_keeps, fingers_few}
 use Rattle.cells.specs.Cells.{leaf_of, node, nodes}
 use Rattle.cells.specs.Chain.{Taken}
 use Rattle.cells.specs.Fingers.{listed_some}
@@ -49,6 +49,13 @@ module _ {I T Q : Type 0} (q : Algebra I T Q) (x : I) (h : List (Cell I T)) wher
 
       pub swapped_count : count_run (nodes h₁ k ns) ≡ count_run (nodes h k ps)
       swapped_count = count_run_is front k (nodes h₁ k ns) swapped_ready ∙ ap length (ap (run front) made.reads ∙ (run_keeps q x k i (nodes h k ps) v l).1.0) ∙ length-set (run front (nodes h k ps)) i x ∙ sym (count_run_is front k (nodes h k ps) v)
+
+      -- as few as a node's fingers, where they were those of one
+      pub swapped_few : (k' at : ℕ) → suc k ≡ k' → FormedNode k' (node h k' at) → nodes h k ps ≡ fingers front (node h (suc k) at) → (2 ≤ length ns) × (length ns ≤ 3)
+      swapped_few k' at s w opened =
+          let few = fingers_few k (node h (suc k) at) (subst (λ j. FormedNode j (node h j at)) (sym s) w) in
+          let long = sym (length-map ns (node h₁ k)) ∙ ap length made.reads ∙ (run_keeps q x k i (nodes h k ps) v l).1.1 ∙ ap length opened in
+          (omega (arith, long, few.0), omega (arith, long, few.1))
 
   -- a node of such fingers
   pub node_made : {h₁ h₂ : List (Cell I T)} {c o : ℕ} {ns : List ℕ} (k k' at i : ℕ) → suc k ≡ k' → (ps : List ℕ) → nodes h k ps ≡ fingers front (node h (suc k) at) → MadeRun h h₁ c k ns (swap (replaced_node q x k) i (nodes h k ps)) → c + 1 ≤ k' + 1 → MadeNode h₁ h₂ 1 (suc k) o (regroup q (nodes h₁ k ns)) → MadeNode h h₂ (k' + 1) k' o (replaced_node q x k' i (node h k' at))

@@ -41,6 +41,9 @@ module _ {I T Q : Type 0} (q : Algebra I T Q) (x : I) (h : List (Cell I T)) (k :
     pub single_ready : FormedNode k (node h₁ k y)
     single_ready = subst (FormedNode k) (sym n.reads) kept.0
 
+    pub single_made : {h₂ : List (Cell I T)} {z : Root} (d : ℕ) → c + 1 ≤ d → MadeTree h₁ h₂ 1 k z (single (node h₁ k y)) → MadeTree h h₂ d k z (replaced q x k i (rooted h k root))
+    single_made d u m = record { grown = grown_more d n.grown m.grown u; reads = m.reads ∙ ap single n.reads ∙ sym (ap (replaced q x k i) e) }
+
     pub single_items : {h₂ : List (Cell I T)} {z : Root} → MadeTree h₁ h₂ 1 k z (single (node h₁ k y)) → items (rooted h₂ k z) ≡ set (items (rooted h k root)) i x
     single_items m = ap items m.reads ∙ ap items_node n.reads ∙ kept.1 ∙ sym (ap (λ t. set (items t) i x) e)
 
