@@ -46,7 +46,7 @@ fn single(rt: &impl Abort, arena: &mut Lent<'_>, finger: u32) -> Root
     ensures grown { Extends arena.old arena.new }
 {
     assert!(rt; 0 < arena.free_count());
-    make_single::<Targets>(arena, 0, finger)
+    make_single::<Targets>(arena.cells, &mut arena.free, 0, finger)
 }
 
 // A tree of two items.
@@ -58,7 +58,15 @@ fn pair(rt: &impl Abort, arena: &mut Lent<'_>, first: u32, last: u32) -> Root
 {
     assert!(rt; 0 < arena.free_count());
     let (near, far) = (Digit::of([first]), Digit::of([last]));
-    make_deep::<Targets>(arena, 0, Side::Front, near, EMPTY, far)
+    make_deep::<Targets>(
+        arena.cells,
+        &mut arena.free,
+        0,
+        Side::Front,
+        near,
+        EMPTY,
+        far,
+    )
 }
 
 #[test]
