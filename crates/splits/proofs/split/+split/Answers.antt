@@ -1,5 +1,6 @@
-use Rattle.std.proofs.Common.{◌≡◌, suc, ◌+◌, ◌*◌, ◌<◌, refl, arith}
-use Rattle.model.specs.Tree.{count_run}
+use Rattle.std.proofs.Common.{◌≡◌, suc, ◌+◌, ◌*◌, ◌<◌, refl, ap, subst, arith, rules}
+use Rattle.model.specs.Tree.{count_run, count}
+use Rattle.model.specs.Forms.{Formed}
 use Rattle.cells.specs.Cells.{nodes, rooted}
 use Rattle.cells.specs.Fingers.{listed}
 use Rattle.cells.proofs.Turned.{turned_formed, turned_count}
@@ -20,6 +21,7 @@ halve_at-requires g t c =
     let s = cut_sums c.args.cells.now c.args.level c.in-Front.place (listed c.in-Deep.near) seen.near_formed l c.cut_digit-cut.result c.cut_digit-cut.ensures in
     record {
       room = omega (arith, sq, c.requires.room);
+      sound = c.requires.sound;
       shallow = omega (arith, seen.levels, c.requires.shallow);
       before = w.before;
       here = w.here;
@@ -36,6 +38,18 @@ returns-in-Front-clause-made g t c =
     front_done g.K.Kind.kind c.args.cells.now c.args.level c.args.position c.args.root seen c.in-Front.place c.in-Front.ensures c.cut_digit-cut.result c.cut_digit-cut.ensures (c.args.root.levels * c.args.root.levels + c.args.root.levels) (omega (arith, sq)) c.halve_at.ensures.made
 
 -- the level is cut in its middle
+pub split-halves-requires : goal.split-halves-requires
+split-halves-requires g t c κs within =
+    let h = c.args.cells.now in
+    let m = c.in-Deep.middle in
+    let seen = c.in-Deep.ensures in
+    let step : suc c.args.level ≡ c.args.level + 1 = omega arith in
+    let less : m.levels < c.args.root.levels = omega (arith, seen.levels) in
+    let sq = squares m.levels c.args.root.levels seen.levels in
+    let below = subst (λ j. Formed j (rooted h j m)) step seen.middle_formed in
+    let n = ap (λ j. count (rooted h j m)) step in
+    (search rules, (within.0, (within.1.0, (within.1.1.0, (within.1.1.1, (omega (arith, sq, c.requires.room), (c.requires.sound, (omega (arith, seen.levels, c.requires.shallow), (below, (omega (arith, n, seen.counts, c.requires.fits), omega (arith, n, c.in-Middle.ensures.1)))))))))))
+
 pub halve_below-requires : goal.halve_below-requires
 halve_below-requires g t c =
     let seen = c.in-Deep.ensures in
@@ -47,6 +61,7 @@ halve_below-requires g t c =
     let spent = c.split-halves.ensures.made.grown.spent in
     record {
       room = omega (arith, sq, l, r, spent, c.requires.room);
+      sound = c.split-halves.ensures.sound;
       shallow = omega (arith, seen.levels, l, r, c.requires.shallow);
       front = near_ready g.K.Kind.kind c.args.cells.now c.args.level c.args.position c.args.root seen c.in-Middle.place c.in-Middle.ensures.0 c.in-Middle.ensures.1 (c.args.level + 1) step c.split-halves.result c.split-halves.ensures.made;
       left = here.before;
@@ -89,6 +104,7 @@ halve_at-requires-in-Back g t c =
     let s = cut_sums c.args.cells.now c.args.level c.in-Back.place (listed c.reversed.result) v l c.cut_digit-cut-in-Back.result c.cut_digit-cut-in-Back.ensures in
     record {
       room = omega (arith, sq, c.requires.room);
+      sound = c.requires.sound;
       shallow = omega (arith, seen.levels, c.requires.shallow);
       before = w.before;
       here = w.here;

@@ -16,6 +16,7 @@ trim-rest-requires g c =
     let spent = c.tree_some-part.ensures.made.grown.spent in
     record {
       room = omega (arith, c.requires.room);
+      sound = c.tree_some-part.ensures.sound;
       shallow = c.requires.shallow;
       near = near_ready q s c.tree_some-part.ensures.made.grown.extends c.args.level (listed_some c.ordered-outer.result.1) c.args.middle (listed c.args.far) w.1 c.requires.middle c.requires.far;
       middle = middle_ready q s c.tree_some-part.ensures.made.grown.extends c.args.level (listed_some c.ordered-outer.result.1) c.args.middle (listed c.args.far) w.1 c.requires.middle c.requires.far;

@@ -15,6 +15,7 @@ trim-after-requires g c =
     let spent = c.trim-before.ensures.made.grown.spent in
     record {
       room = omega (arith, c.requires.room);
+      sound = c.trim-before.ensures.sound;
       shallow = omega (arith, c.requires.shallow);
       near = near_ready q front c.trim-before.ensures.made.grown.extends k (listed_some c.args.cut.after) c.args.halves.after (listed c.args.back) c.requires.after c.requires.right c.requires.back;
       middle = middle_ready q front c.trim-before.ensures.made.grown.extends k (listed_some c.args.cut.after) c.args.halves.after (listed c.args.back) c.requires.after c.requires.right c.requires.back;
