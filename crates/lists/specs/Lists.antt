@@ -7,6 +7,7 @@ use Rattle.model.specs.Statements.{Sound}
 use Rattle.cells.specs.Cells.{rooted}
 use Rattle.cells.specs.Chain.{Grown}
 use Rattle.cells.specs.declared.cell.Cell.{Cell}
+use Rattle.cells.specs.declared.cell.FreeList.{FreeList}
 use Rattle.cells.specs.declared.cell.Root.{Root}
 use Rattle.lists.specs.declared.halves.Halves.{Halves}
 use Rattle.ends.specs.declared.pop.Popped.{Popped}
@@ -54,9 +55,9 @@ module _ {I T : Type 0} where
     pub made : Made h h' cost r rest
     pub was : xs ≡ along side (item ∷ []) rest
 
-  abbrev pub Given : List (Cell I T) → List (Cell I T) → ℕ → Side → List I → Option (Popped I) → Type 0
-  Given h h' cost side xs None = (xs ≡ []) × (h' ≡ h)
-  Given h h' cost side xs (Some t) = Took h h' cost side xs t.taken t.rest
+  abbrev pub Given : List (Cell I T) → List (Cell I T) → FreeList → FreeList → ℕ → Side → List I → Option (Popped I) → Type 0
+  Given h h' free free' cost side xs None = (xs ≡ []) × (h' ≡ h) × (free' ≡ free)
+  Given h h' free free' cost side xs (Some t) = Took h h' cost side xs t.taken t.rest
 
   -- Totals stay right.
   abbrev pub GivenRight : {Q : Type 0} → Algebra I T Q → List (Cell I T) → Option (Popped I) → Type 0

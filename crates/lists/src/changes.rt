@@ -1,6 +1,6 @@
 // A list with another item at a position.
 ghost use Rattle.std.specs.Prelude.{◌≡◌, ◌*◌, ◌^◌, ◌<◌, ◌≤◌, true, length, slice_set};
-ghost use Rattle.cells.specs.Chain.{Sound, free_cells};
+ghost use Rattle.cells.specs.Chain.{Sound};
 ghost use Rattle.lists.specs.Lists.{list_at, Whole, Right, Made};
 
 use cells::cell::{Cell, FreeList, Root};
@@ -14,7 +14,7 @@ pub fn replace<K: Kind>(
     position: u32,
     item: K::Item,
 ) -> Root
-    requires room { 2 * root.levels ≤ free_cells cells.old }
+    requires room { 2 * root.levels ≤ free.old.count }
     requires sound { Sound cells.old free.old }
     requires whole { Whole cells.old root }
     requires fits { length (list_at cells.old root) < 2 ^ 32 }

@@ -1,7 +1,7 @@
 // One list after another.
 ghost use Rattle.std.specs.Prelude.{◌≡◌, ◌+◌, ◌*◌, ◌^◌, ◌<◌, ◌≤◌, ◌++◌, length};
 ghost use Rattle.model.specs.Levels.{most_levels};
-ghost use Rattle.cells.specs.Chain.{Sound, free_cells};
+ghost use Rattle.cells.specs.Chain.{Sound};
 ghost use Rattle.lists.specs.Lists.{list_at, Whole, Right, Made};
 
 use cells::cell::{Cell, FreeList, Root};
@@ -14,7 +14,7 @@ pub fn join<K: Kind>(
     left: Root,
     right: Root,
 ) -> Root
-    requires room { 10 * most_levels (length (list_at cells.old left) + length (list_at cells.old right)) ≤ free_cells cells.old }
+    requires room { 10 * most_levels (length (list_at cells.old left) + length (list_at cells.old right)) ≤ free.old.count }
     requires sound { Sound cells.old free.old }
     requires left { Whole cells.old left }
     requires right { Whole cells.old right }

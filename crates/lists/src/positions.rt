@@ -1,6 +1,6 @@
 // A list in two, and the item at a position.
 ghost use Rattle.std.specs.Prelude.{◌≡◌, ◌+◌, ◌*◌, ◌^◌, ◌<◌, ◌≤◌, length, take, drop, slice_index_or};
-ghost use Rattle.cells.specs.Chain.{Sound, free_cells};
+ghost use Rattle.cells.specs.Chain.{Sound};
 ghost use Rattle.lists.specs.Lists.{list_at, Whole, Right, MadeTwo};
 
 use super::halves::Halves;
@@ -25,7 +25,7 @@ pub fn split_at<K: Kind>(
     root: Root,
     position: u32,
 ) -> Halves
-    requires room { root.levels * root.levels + 3 * root.levels ≤ free_cells cells.old }
+    requires room { root.levels * root.levels + 3 * root.levels ≤ free.old.count }
     requires sound { Sound cells.old free.old }
     requires whole { Whole cells.old root }
     requires fits { length (list_at cells.old root) < 2 ^ 32 }

@@ -1,7 +1,7 @@
 // Where a question is met.
 ghost use Rattle.std.specs.Prelude.{◌≡◌, ◌+◌, ◌*◌, ◌^◌, ◌<◌, ◌≤◌, length};
 ghost use Rattle.model.specs.Seek.{seek as first_met};
-ghost use Rattle.cells.specs.Chain.{Sound, free_cells};
+ghost use Rattle.cells.specs.Chain.{Sound};
 ghost use Rattle.seeks.specs.Sought.{sought, Inside};
 ghost use Rattle.lists.specs.Lists.{list_at, Whole, Right, PartedBy};
 
@@ -34,7 +34,7 @@ pub fn split_by<K: Kind>(
     root: Root,
     question: K::Question,
 ) -> Halves
-    requires room { root.levels * root.levels + 3 * root.levels ≤ free_cells cells.old }
+    requires room { root.levels * root.levels + 3 * root.levels ≤ free.old.count }
     requires sound { Sound cells.old free.old }
     requires whole { Whole cells.old root }
     requires fits { length (list_at cells.old root) < 2 ^ 32 }

@@ -3,7 +3,7 @@ ghost use Rattle.std.specs.Prelude.{◌≡◌, ◌+◌, ◌*◌, ◌^◌, ◌<�
 ghost use Rattle.model.specs.Tree.{along};
 ghost use Rattle.model.specs.Levels.{most_levels};
 ghost use Rattle.cells.specs.Cells.{end};
-ghost use Rattle.cells.specs.Chain.{Sound, free_cells};
+ghost use Rattle.cells.specs.Chain.{Sound};
 ghost use Rattle.lists.specs.Lists.{list_at, Whole, Right, Made, Given, GivenRight};
 
 use cells::cell::{Body, Cell, FreeList, Root};
@@ -21,7 +21,7 @@ pub fn push<K: Kind>(
     item: K::Item,
     root: Root,
 ) -> Root
-    requires room { 2 * most_levels (length (list_at cells.old root) + 1) ≤ free_cells cells.old }
+    requires room { 2 * most_levels (length (list_at cells.old root) + 1) ≤ free.old.count }
     requires sound { Sound cells.old free.old }
     requires whole { Whole cells.old root }
     requires fits { length (list_at cells.old root) + 1 < 2 ^ 32 }
@@ -40,11 +40,11 @@ pub fn pop<K: Kind>(
     side: Side,
     root: Root,
 ) -> Option<Popped<K::Item>>
-    requires room { root.levels ≤ free_cells cells.old }
+    requires room { root.levels ≤ free.old.count }
     requires sound { Sound cells.old free.old }
     requires whole { Whole cells.old root }
     requires fits { length (list_at cells.old root) < 2 ^ 32 }
-    ensures given { Given cells.old cells.new root.levels (end side) (list_at cells.old root) result }
+    ensures given { Given cells.old cells.new free.old free.new root.levels (end side) (list_at cells.old root) result }
     ensures right { Right K.Kind.kind cells.old root → GivenRight K.Kind.kind cells.new result }
     ensures sound { Sound cells.new free.new }
 {

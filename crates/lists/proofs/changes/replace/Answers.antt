@@ -11,7 +11,8 @@ pub replace-requires : goal.replace-requires
 replace-requires g c =
     let n = count_at c.args.cells.now c.args.root c.requires.whole in
     record {
-      room = omega (arith, c.requires.room);
+      room = omega (arith, c.requires.sound.all, c.requires.room);
+      sound = c.requires.sound;
       shallow = omega (arith, root_shallow g.K.Kind.kind c.args.cells.now c.args.root c.requires.whole c.requires.fits);
       formed = formed_at c.args.cells.now c.args.root c.requires.whole;
       fits = omega (arith, n, c.requires.fits);
@@ -27,5 +28,6 @@ returns g c =
     let formed = ((decides_formed d 0 (replaced g.K.Kind.kind c.args.item 0 c.args.position t)).0 kept.1).1 in
     record {
       made = made_from (2 * d) (set (list_at c.args.cells.now c.args.root) c.args.position c.args.item) c.replace.ensures.made formed kept.0 (omega arith);
+      sound = c.replace.ensures.sound;
       right = λ sound fair. right_from g.K.Kind.kind c.replace.ensures.made (replaced_measures g.met.K.Kind.lawful t c.args.position c.args.item fair sound);
     }

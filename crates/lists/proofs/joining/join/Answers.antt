@@ -9,7 +9,8 @@ append-requires g c =
     let h = c.args.cells.now in
     let levels = join_levels g.K.Kind.kind h c.args.left c.args.right c.requires.left c.requires.right in
     record {
-      room = omega (arith, levels, c.requires.room);
+      room = omega (arith, levels, c.requires.sound.all, c.requires.room);
+      sound = c.requires.sound;
       shallow = omega (arith, join_shallow g.K.Kind.kind h c.args.left c.args.right c.requires.left c.requires.right c.requires.fits);
       left = formed_at h c.args.left c.requires.left;
       loose = tt;
@@ -22,4 +23,5 @@ returns g c =
     record {
       made = joined_made g.K.Kind.kind c.args.cells.now c.args.left c.args.right c.requires.left c.requires.right c.append.ensures.made;
       right = joined_right g.K.Kind.kind c.args.cells.now c.args.left c.args.right c.requires.left c.requires.right c.append.ensures.made g.met.K.Kind.lawful;
+      sound = c.append.ensures.sound;
     }

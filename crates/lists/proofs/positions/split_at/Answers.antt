@@ -7,7 +7,8 @@ pub split-parts-requires : goal.split-parts-requires
 split-parts-requires g c =
     let n = count_at c.args.cells.now c.args.root c.requires.whole in
     record {
-      room = omega (arith, c.requires.room);
+      room = omega (arith, c.requires.sound.all, c.requires.room);
+      sound = c.requires.sound;
       shallow = omega (arith, root_shallow g.K.Kind.kind c.args.cells.now c.args.root c.requires.whole c.requires.fits);
       formed = formed_at c.args.cells.now c.args.root c.requires.whole;
       fits = omega (arith, n, c.requires.fits);
@@ -17,7 +18,8 @@ split-parts-requires g c =
 pub push-right-requires : goal.push-right-requires
 push-right-requires g c =
     record {
-      room = push_room g.K.Kind.kind c.args.cells.now c.args.root c.requires.whole c.requires.fits c.args.position c.requires.within c.split-parts.result c.split-parts.ensures.made c.requires.room;
+      room = push_room g.K.Kind.kind c.args.cells.now c.args.root c.requires.whole c.requires.fits c.args.position c.requires.within c.split-parts.result c.split-parts.ensures.made (omega (arith, c.requires.sound.all, c.requires.room));
+      sound = c.split-parts.ensures.sound;
       shallow = omega (arith, right_shallow g.K.Kind.kind c.args.cells.now c.args.root c.requires.whole c.requires.fits c.args.position c.requires.within c.split-parts.result c.split-parts.ensures.made);
       formed = right_ready g.K.Kind.kind c.args.cells.now c.args.root c.requires.whole c.requires.fits c.args.position c.requires.within c.split-parts.result c.split-parts.ensures.made;
       finger = finger_ready g.K.Kind.kind c.args.cells.now c.args.root c.requires.whole c.requires.fits c.args.position c.requires.within c.split-parts.result c.split-parts.ensures.made;
@@ -29,4 +31,5 @@ returns g c =
     record {
       made = parted_made g.K.Kind.kind c.args.cells.now c.args.root c.requires.whole c.requires.fits c.args.position c.requires.within c.split-parts.result c.split-parts.ensures.made c.push-right.ensures.made;
       right = parted_right g.K.Kind.kind c.args.cells.now c.args.root c.requires.whole c.requires.fits c.args.position c.requires.within c.split-parts.result c.split-parts.ensures.made c.push-right.ensures.made g.met.K.Kind.lawful;
+      sound = c.push-right.ensures.sound;
     }
