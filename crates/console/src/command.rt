@@ -1,6 +1,5 @@
 // A line of the script, as a command.
 use crate::stop::Stop;
-use std::alloc::Global;
 use std::fmt;
 
 /// What a line asks for. Names of files are as the script has them.
@@ -99,29 +98,35 @@ impl Verb {
         }
     }
 
-    // The command, if the words are those that it takes.
-    fn with<'a>(self, words: &[&'a str]) -> Option<Command<'a>> {
+    // The command, if the words are those that it takes: none takes more than three.
+    fn with<'a>(self, words: [Option<&'a str>; 4]) -> Option<Command<'a>> {
         match (self, words) {
-            (Verb::Help, []) => Some(Command::Help),
-            (Verb::Check, [file]) => Some(Command::Check(file)),
-            (Verb::Show, [file]) => Some(Command::Show(file)),
-            (Verb::Labels, [file]) => Some(Command::Labels(file)),
-            (Verb::Make, [text, targets, out]) => Some(Command::Make { text, targets, out }),
-            (Verb::Rewrite, [file, out]) => Some(Command::Rewrite { file, out }),
-            (Verb::Hex, [file]) => Some(Command::Hex(file)),
+            (Verb::Help, [None, ..]) => Some(Command::Help),
+            (Verb::Check, [Some(file), None, ..]) => Some(Command::Check(file)),
+            (Verb::Show, [Some(file), None, ..]) => Some(Command::Show(file)),
+            (Verb::Labels, [Some(file), None, ..]) => Some(Command::Labels(file)),
+            (Verb::Make, [Some(text), Some(targets), Some(out), None]) => {
+                Some(Command::Make { text, targets, out })
+            }
+            (Verb::Rewrite, [Some(file), Some(out), None, _]) => {
+                Some(Command::Rewrite { file, out })
+            }
+            (Verb::Hex, [Some(file), None, ..]) => Some(Command::Hex(file)),
             _ => None,
         }
     }
 }
 
-pub(crate) fn parse(heap: Global, line: &str) -> Result<Command<'_>, Stop<'_>> {
-    let words: Vec<&str> = line.split_whitespace().collect(heap)?;
-    match words.as_slice() {
-        [] => Ok(Command::Nothing),
-        [name, ..] if name.starts_with('#') => Ok(Command::Nothing),
-        [name, words @ ..] => {
-            let verb = Verb::try_from(*name)?;
-            verb.with(words).ok_or(Stop::Usage(verb))
-        }
+// At most five words are looked at, so that a line costs no memory, however long it is.
+pub(crate) fn parse(line: &str) -> Result<Command<'_>, Stop<'_>> {
+    let mut words = line.split_whitespace();
+    let Some(name) = words.next() else {
+        return Ok(Command::Nothing);
+    };
+    if name.starts_with('#') {
+        return Ok(Command::Nothing);
     }
+    let verb = Verb::try_from(name)?;
+    let words = [words.next(), words.next(), words.next(), words.next()];
+    verb.with(words).ok_or(Stop::Usage(verb))
 }

@@ -43,7 +43,7 @@ fn answer(rt: &HostRuntime, line: &str) -> io::Result<()> {
 
 // One command. They are a closed list, so a `match`.
 fn obey<'a>(rt: &HostRuntime, line: &'a str) -> Result<(), Stop<'a>> {
-    match command::parse(rt.alloc(), line)? {
+    match command::parse(line)? {
         Command::Nothing => Ok(()),
         Command::Help => Ok(help(rt)?),
         Command::Check(file) => check(rt, file),

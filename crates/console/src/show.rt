@@ -20,11 +20,7 @@ pub(crate) fn tell_summary<'a>(
     name: &'a str,
     file: &[u8],
 ) -> Result<(), Stop<'a>> {
-    let sum = planfile::check(file).map_err(|fault| Stop::File {
-        name,
-        fault,
-        twice: None,
-    })?;
+    let sum = planfile::check(file).map_err(|fault| Stop::File { name, fault })?;
     summarize(rt, name, sum)?;
     Ok(())
 }

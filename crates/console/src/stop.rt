@@ -30,11 +30,10 @@ pub enum Stop<'a> {
         line: usize,
         slip: Slip,
     },
-    /// A plan file is refused; `twice` is a number that two targets to be written have: the fault tells none.
+    /// A plan file is refused.
     File {
         name: &'a str,
         fault: FileFault,
-        twice: Option<u16>,
     },
     Labels {
         name: &'a str,
@@ -84,7 +83,7 @@ impl fmt::Display for Stop<'_> {
                     "Nothing was made. Line {line} of {name} is wrong: {slip}."
                 )
             }
-            Stop::File { name, fault, twice } => file_refused(f, name, *fault, *twice),
+            Stop::File { name, fault } => file_refused(f, name, *fault),
             Stop::Labels { name, fault } => write!(f, "{name} is refused with {fault}."),
         }
     }
@@ -95,7 +94,6 @@ fn file_refused<W: fmt::Write>(
     f: &mut fmt::Formatter<W>,
     name: &str,
     fault: FileFault,
-    twice: Option<u16>,
 ) -> fmt::Result {
     if fault.cause == Cause::NoRoom {
         let number = fault.number();
@@ -103,12 +101,8 @@ fn file_refused<W: fmt::Write>(
         write!(
             f,
             "{name} is refused with number {number}, layer file, place {place}: the file would have more than 65535 bytes."
-        )?;
+        )
     } else {
-        write!(f, "{name} is refused with {fault}.")?;
-    }
-    match twice {
-        Some(number) => write!(f, "\nThe number {number} is on two lines."),
-        None => Ok(()),
+        write!(f, "{name} is refused with {fault}.")
     }
 }

@@ -1,3 +1,4 @@
 pub mod Faults
 pub mod Rows
+pub mod State
 pub mod Versions

@@ -1,5 +1,5 @@
 -- The checks of a call, in the order in which they are made. Assumes nothing.
-use Rattle.std.specs.Prelude.{Bool, cond, List, [], ◌∷◌, Ok, Err, Option, Result}
+use Rattle.std.specs.Prelude.{Bool, cond, List, [], ◌∷◌, Some, Ok, Err, Option, Result}
 use Rattle.cells.specs.declared.cell.Root.{Root}
 use Rattle.sweep.specs.declared.version.Version.{Version}
 use Rattle.memory.specs.declared.fault.StoreFault.{StoreFault}
@@ -16,3 +16,7 @@ checked (Err fault ∷ more) = Err fault
 -- The record of a place: of a version, or of none.
 abbrev pub recorded : Option Root → Version
 recorded r = record { root = r }
+
+-- The record of a kept version.
+abbrev pub filled : Root → Version
+filled r = recorded (Some r)

@@ -1,9 +1,10 @@
-use super::table::Table;
-use cells::arena::Arena;
+use cells::cell::{Cell, FreeList};
 use kinds::Kind;
+use sweep::version::Version;
 
-/// The memory that a store is lent: its cells, with the list of the free ones, and its table of version records.
+/// The memory that a store is lent: its cells, its table of version records, and the list of the free cells.
 pub struct Memory<'a, K: Kind> {
-    pub arena: Arena<'a, K::Item, K::Total>,
-    pub table: Table<'a>,
+    pub cells: &'a mut [Cell<K::Item, K::Total>],
+    pub table: &'a mut [Version],
+    pub free: FreeList,
 }
