@@ -11,7 +11,8 @@ use super::read::body_at;
 use std::marker::Model;
 
 /// The cells that are lent, and the list of the free ones among them. A contract sees the cells; that the list has all
-/// the free cells, each once, and that no cell is marked, holds of every arena: whoever writes a field owes it. It is
+/// the free cells, each once, and that no cell is marked, holds of every arena: whoever writes a field owes it. Taken apart,
+/// an arena gives its cells and a sound list of the free ones, for the functions that make nodes, levels and lists. It is
 /// generic in the item and the total, and not in the kind: what a contract sees of a type cannot cite what a kind names.
 #[derive(Drop)]
 pub struct Arena<'a, I, T> {

@@ -1,8 +1,8 @@
 // Lists in cells: what is done with a root, by the list that it stands for.
 //
-// Each function takes the arena of the lent cells. Cells in use are never written, so that every other root reads as
-// before; a result shares what it can with its sources. What is asked of a root (whole, fits) stands in clauses: a root alone
-// does not know its cells.
+// Each function takes the lent cells, and one that makes a list their free list too. Cells in use are never written, so that
+// every other root reads as before; a result shares what it can with its sources. What is asked of a root (whole, fits)
+// stands in clauses: a root alone does not know its cells.
 #![tactic(auto)]
 
 mod changes;
