@@ -2,16 +2,14 @@
 use Rattle.std.proofs.Common.{◌≡◌, ℕ, zero, suc, ◌+◌, ◌≤◌, true, eqb, List, [], ◌∷◌, length, get_or, ap, ◌∙◌, arith}
 use Rattle.std.proofs.lemmas.Bool.Decides.{nat_tests}
 use Rattle.std.proofs.lemmas.List.{length-map}
-use Rattle.model.specs.Tree.{Side as End}
 use Rattle.model.specs.Tree.{Node, single, deep, count_node, count_run, count, front, back}
 use Rattle.kinds.specs.Algebra.{Algebra}
 use Rattle.model.specs.Measures.{sum_node, sum_run, sum}
-use Rattle.model.specs.Ends.{make, deep_at}
+use Rattle.model.specs.Ends.{make}
 use Rattle.model.specs.Replace.{regroup}
 use Rattle.model.specs.Forms.{FormedNode, Each, Formed}
-use Rattle.cells.specs.Cells.{in_order, node_from, branch_of, node, nodes, level_of, tree, rooted}
-use Rattle.cells.specs.Fingers.{front_of, held, listed}
-use Rattle.cells.specs.declared.fingers.Digit.{Digit as Filled}
+use Rattle.cells.specs.Cells.{node_from, branch_of, node, nodes, level_of, tree, rooted}
+use Rattle.cells.specs.Fingers.{front_of, held}
 use Rattle.cells.specs.Chain.{Taken}
 use Rattle.cells.specs.Made.{MadeNode, MadeTree, Weighed}
 use Rattle.cells.specs.declared.cell.Cell.{Cell}
@@ -56,10 +54,6 @@ module _ {I T Q : Type 0} (q : Algebra I T Q) {h h' : List (Cell I T)} {r : ℕ}
     grown = u.grown;
     reads = made_level e (omega arith) u ∙ rw (x, y, keep_nodes u.grown.extends k fs v, keep_tree u.grown.extends m.levels (suc k) m.at formed, keep_nodes u.grown.extends k bs z, o, c);
   }
-
-  pub made_sided : {w : Weight T} {e : ℕ} {m : Root} {f b : Fingers} (s : End) (near far : Filled) (o : Filled × Filled) → o ≡ in_order s near far → e ≡ m.levels + 1 → held f ≡ listed o.0 → held b ≡ listed o.1 → Taken h h' r (Deep w f m b) → Each k (nodes h k (listed near)) → Formed (suc k) (rooted h (suc k) m) → Each k (nodes h k (listed far)) → w.total ≡ q.joined (sum_run q front (nodes h k (listed o.0))) (q.joined (sum q (rooted h (suc k) m)) (sum_run q back (nodes h k (listed o.1)))) → w.items ≡ count_run (nodes h k (listed o.0)) + (count (rooted h (suc k) m) + count_run (nodes h k (listed o.1))) → MadeTree h h' 1 k (record { levels = e; at = r }) (deep_at q s (nodes h k (listed near)) (rooted h (suc k) m) (nodes h k (listed far)))
-  made_sided front near far o i l x y u v formed z a c = made_deep _ _ l (rw i at x) (rw i at y) u v formed z (rw i at a) (rw i at c)
-  made_sided back near far o i l x y u v formed z a c = made_deep _ _ l (rw i at x) (rw i at y) u z formed v (rw i at a) (rw i at c)
 
 -- two or three nodes, weighed
 module _ {I T Q : Type 0} (q : Algebra I T Q) (h : List (Cell I T)) (k n : ℕ) (at : List ℕ) where

@@ -2,6 +2,7 @@
 ghost use Rattle.std.specs.Prelude.{suc, ◌+◌, ◌^◌, ◌<◌, ◌≤◌};
 ghost use Rattle.model.specs.Tree.{count_run, count};
 ghost use Rattle.model.specs.Tree.{single as alone};
+ghost use Rattle.model.specs.Ends.{make};
 ghost use Rattle.model.specs.Ends.{deep_at as tree_at_side};
 ghost use Rattle.model.specs.Replace.{regroup};
 ghost use Rattle.model.specs.Forms.{FormedNode, Each, Formed};
@@ -70,6 +71,45 @@ pub fn make_single<K: Kind>(
     Root { levels: 1, at }
 }
 
+/// A level with its fingers in front and behind.
+fn deep<K: Kind>(
+    cells: &mut [Cell<K::Item, K::Total>],
+    free: &mut FreeList,
+    level: u32,
+    front: Digit,
+    middle: Root,
+    back: Digit,
+) -> Root
+    requires room { 0 < free_cells cells.old }
+    requires sound { Sound cells.old free.old }
+    requires shallow { level + middle.levels < 64 }
+    requires front { Each level (nodes cells.old level (listed front)) }
+    requires middle { Formed (suc level) (rooted cells.old (suc level) middle) }
+    requires back { Each level (nodes cells.old level (listed back)) }
+    requires fits { count_run (nodes cells.old level (listed front)) + (count (rooted cells.old (suc level) middle) + count_run (nodes cells.old level (listed back))) < 2 ^ 32 }
+    ensures made { MadeTree cells.old cells.new 1 level result (make K.Kind.kind (nodes cells.old level (listed front)) (rooted cells.old (suc level) middle) (nodes cells.old level (listed back))) }
+    ensures sound { Sound cells.new free.new }
+{
+    let first = weigh_run::<K>(cells, level, Side::Front, front);
+    let inner = weigh_tree::<K>(cells, level + 1, middle);
+    let last = weigh_run::<K>(cells, level, Side::Back, back);
+    let weight = toward::<K>(Side::Front, first, toward::<K>(Side::Front, inner, last));
+    let at = take_cell(
+        cells,
+        free,
+        Body::Deep {
+            weight,
+            front: front.into(),
+            middle,
+            back: back.into(),
+        },
+    );
+    Root {
+        levels: middle.levels + 1,
+        at,
+    }
+}
+
 /// A level with its fingers at a side, and those at the other. They and the middle go side by side, here and above: a struct
 /// of the three would be made at each call and taken apart in each body.
 pub fn make_deep<K: Kind>(
@@ -91,23 +131,8 @@ pub fn make_deep<K: Kind>(
     ensures made { MadeTree cells.old cells.new 1 level result (tree_at_side K.Kind.kind (end side) (nodes cells.old level (listed near)) (rooted cells.old (suc level) middle) (nodes cells.old level (listed far))) }
     ensures sound { Sound cells.new free.new }
 {
-    let (front, back) = side.ordered(near, far);
-    let first = weigh_run::<K>(cells, level, Side::Front, front);
-    let inner = weigh_tree::<K>(cells, level + 1, middle);
-    let last = weigh_run::<K>(cells, level, Side::Back, back);
-    let weight = toward::<K>(Side::Front, first, toward::<K>(Side::Front, inner, last));
-    let at = take_cell(
-        cells,
-        free,
-        Body::Deep {
-            weight,
-            front: front.into(),
-            middle,
-            back: back.into(),
-        },
-    );
-    Root {
-        levels: middle.levels + 1,
-        at,
+    match side {
+        Side::Front => deep::<K>(cells, free, level, near, middle, far),
+        Side::Back => deep::<K>(cells, free, level, far, middle, near),
     }
 }

@@ -109,12 +109,17 @@ impl Digit {
         }
     }
 
-    /// The same fingers from the other end.
+    /// The same fingers from the other end. Written out, since the library's `reverse` of a part of an array is a loop of swaps.
     pub fn reversed(self) -> Digit
         ensures { listed result ≡ onto (listed self) [] }
     {
-        let mut at = self.at;
-        at[..usize::from(self.count)].reverse();
+        let [a, b, c, d] = self.at;
+        let at = match self.count {
+            1 => [a, 0, 0, 0],
+            2 => [b, a, 0, 0],
+            3 => [c, b, a, 0],
+            _ => [d, c, b, a],
+        };
         Digit {
             count: self.count,
             at,

@@ -48,10 +48,16 @@ pub fn toward<K: Kind>(
     requires { near.items + far.items < 2 ^ 32 }
     ensures { Weighed (nearer K.Kind.kind (end side) near.total far.total) (near.items + far.items) result }
 {
-    let (left, right) = side.ordered(near.total, far.total);
-    Weight {
-        total: K::join(left, right),
-        items: near.items + far.items,
+    let items = near.items + far.items;
+    match side {
+        Side::Front => Weight {
+            total: K::join(near.total, far.total),
+            items,
+        },
+        Side::Back => Weight {
+            total: K::join(far.total, near.total),
+            items,
+        },
     }
 }
 
@@ -78,11 +84,13 @@ pub fn weigh_run<K: Kind>(
 {
     let (finger, rest) = digit.split_first();
     let first = weigh::<K>(cells, level, finger);
-    let others = match rest {
-        Some(more) => weigh_run::<K>(cells, level, side, more),
-        None => weigh_nothing::<K>(),
-    };
-    toward::<K>(side, first, others)
+    match rest {
+        Some(more) => {
+            let others = weigh_run::<K>(cells, level, side, more);
+            toward::<K>(side, first, others)
+        }
+        None => toward::<K>(side, first, weigh_nothing::<K>()),
+    }
 }
 
 /// What a tree comes to.
@@ -131,8 +139,18 @@ pub fn view<K: Kind>(cells: &[Cell<K::Item, K::Total>], level: u32, side: Side, 
             let Ok(back) = Digit::try_from(back) else {
                 unreachable();
             };
-            let (near, far) = side.ordered(front, back);
-            View::Deep { near, middle, far }
+            match side {
+                Side::Front => View::Deep {
+                    near: front,
+                    middle,
+                    far: back,
+                },
+                Side::Back => View::Deep {
+                    near: back,
+                    middle,
+                    far: front,
+                },
+            }
         }
         _ => unreachable(),
     }

@@ -21,7 +21,9 @@ impl Side {
         }
     }
 
-    /// What is nearer to this end and what is farther from it, from left to right.
+    /// What is nearer to this end and what is farther from it, from left to right. Digits and totals that are ordered at
+    /// every level (`view`, `make_deep`, `toward`) have a `match` there: as a pair they are copied, which made a push or a
+    /// seek a third slower.
     pub fn ordered<A>(self, near: A, far: A) -> (A, A)
         ensures { result ≡ in_order (end self) near far }
     {

@@ -5,7 +5,6 @@ use Rattle.cells.specs.Cells.{nodes}
 use Rattle.cells.specs.Fingers.{listed}
 use Rattle.cells.proofs.Fours.{listed_length}
 use Rattle.cells.proofs.read.+weigh_run.Goals as goal
-use Rattle.cells.proofs.read.+weigh_run.Goals.{in-Some, in-None}
 
 pub weigh_run-others-requires : goal.weigh_run-others-requires
 weigh_run-others-requires g t c κs within =
@@ -17,9 +16,3 @@ weigh_run-others-requires g t c κs within =
     let fits : count_run (nodes c.args.cells.now c.args.level (listed more)) < 2 ^ 32 = omega (arith, n, c.requires.fits) in
     let less : more.count < d.count = omega (arith, listed_length d, listed_length more, ap length e) in
     search rules
-
-pub returns : goal.returns
-returns g t c = elim c.match-rest.branch [
-  | in-Some w ↦ search rules
-  | in-None w ↦ search rules
-]
