@@ -10,6 +10,7 @@ ghost use Rattle.cells.specs.Cells.{body as body_of};
 ghost use Rattle.cells.specs.Fingers.{listed};
 ghost use Rattle.cells.specs.Made.{Weighed, Seen};
 
+use super::arena::Arena;
 use super::cell::{Body, Cell, Root, Weight};
 use super::fingers::Digit;
 use super::side::Side;
@@ -117,8 +118,10 @@ pub fn weigh_tree<K: Kind>(
     }
 }
 
-/// The first level of a tree, as it is seen from a side.
-pub fn view<K: Kind>(cells: &[Cell<K::Item, K::Total>], level: u32, side: Side, root: Root) -> View
+// A tree is seen, and a node's parts and an item are read, by a body of any item and total: an arena has no kind to name.
+
+// The first level of a tree, as it is seen from a side.
+fn view_of<I: Copy, T: Copy>(cells: &[Cell<I, T>], level: u32, side: Side, root: Root) -> View
     requires { Formed level (rooted cells.now level root) }
     ensures { Seen cells.now level (end side) root result }
 {
@@ -156,13 +159,16 @@ pub fn view<K: Kind>(cells: &[Cell<K::Item, K::Total>], level: u32, side: Side, 
     }
 }
 
-/// The parts of a node, listed from the side.
-pub fn fingers_of<K: Kind>(
-    cells: &[Cell<K::Item, K::Total>],
-    level: u32,
-    side: Side,
-    at: u32,
-) -> Digit
+/// The first level of a tree, as it is seen from a side.
+pub fn view<K: Kind>(cells: &[Cell<K::Item, K::Total>], level: u32, side: Side, root: Root) -> View
+    requires { Formed level (rooted cells.now level root) }
+    ensures { Seen cells.now level (end side) root result }
+{
+    view_of(cells, level, side, root)
+}
+
+// The parts of a node, listed from the side.
+fn parts_of<I: Copy, T: Copy>(cells: &[Cell<I, T>], level: u32, side: Side, at: u32) -> Digit
     requires { FormedNode (suc level) (node cells.now (suc level) at) }
     ensures { nodes cells.now level (listed result) ≡ fingers (end side) (node cells.now (suc level) at) }
 {
@@ -178,8 +184,21 @@ pub fn fingers_of<K: Kind>(
     }
 }
 
-/// The item that a node of depth 0 is.
-pub fn read_item<K: Kind>(cells: &[Cell<K::Item, K::Total>], at: u32) -> K::Item
+/// The parts of a node, listed from the side.
+pub fn fingers_of<K: Kind>(
+    cells: &[Cell<K::Item, K::Total>],
+    level: u32,
+    side: Side,
+    at: u32,
+) -> Digit
+    requires { FormedNode (suc level) (node cells.now (suc level) at) }
+    ensures { nodes cells.now level (listed result) ≡ fingers (end side) (node cells.now (suc level) at) }
+{
+    parts_of(cells, level, side, at)
+}
+
+// The item that a node of depth 0 is.
+fn item_of<I: Copy, T: Copy>(cells: &[Cell<I, T>], at: u32) -> I
     requires { FormedNode 0 (node cells.now 0 at) }
     ensures { node cells.now 0 at ≡ leaf result }
 {
@@ -187,4 +206,38 @@ pub fn read_item<K: Kind>(cells: &[Cell<K::Item, K::Total>], at: u32) -> K::Item
         unreachable();
     };
     item
+}
+
+/// The item that a node of depth 0 is.
+pub fn read_item<K: Kind>(cells: &[Cell<K::Item, K::Total>], at: u32) -> K::Item
+    requires { FormedNode 0 (node cells.now 0 at) }
+    ensures { node cells.now 0 at ≡ leaf result }
+{
+    item_of(cells, at)
+}
+
+impl<I: Copy, T: Copy> Arena<'_, I, T> {
+    /// The first level of a tree, as it is seen from a side.
+    pub fn view(&self, level: u32, side: Side, root: Root) -> View
+        requires { Formed level (rooted self.now level root) }
+        ensures { Seen self.now level (end side) root result }
+    {
+        view_of(self.cells, level, side, root)
+    }
+
+    /// The parts of a node, listed from the side.
+    pub fn parts(&self, level: u32, side: Side, at: u32) -> Digit
+        requires { FormedNode (suc level) (node self.now (suc level) at) }
+        ensures { nodes self.now level (listed result) ≡ fingers (end side) (node self.now (suc level) at) }
+    {
+        parts_of(self.cells, level, side, at)
+    }
+
+    /// The item that a node of depth 0 is.
+    pub fn item(&self, at: u32) -> I
+        requires { FormedNode 0 (node self.now 0 at) }
+        ensures { node self.now 0 at ≡ leaf result }
+    {
+        item_of(self.cells, at)
+    }
 }

@@ -1,7 +1,7 @@
 use Rattle.std.proofs.Common.{suc, [], sym, ap, ◌∙◌}
 use Rattle.model.specs.Append.{onto}
 use Rattle.cells.proofs.Opened.{node_within, no_item, some_parts, parts_front, parts_back}
-use Rattle.cells.proofs.read.fingers_of.Goals as goal
+use Rattle.cells.proofs.read.parts_of.Goals as goal
 
 pub body_at-requires : goal.body_at-requires
 body_at-requires g c = node_within c.args.cells.now (suc c.args.level) c.args.at c.requires

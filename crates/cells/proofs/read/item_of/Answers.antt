@@ -1,6 +1,6 @@
 use Rattle.std.proofs.Common.{sym, ◌∙◌}
 use Rattle.cells.proofs.Opened.{node_within, only_item, item_reads}
-use Rattle.cells.proofs.read.read_item.Goals as goal
+use Rattle.cells.proofs.read.item_of.Goals as goal
 
 pub body_at-requires : goal.body_at-requires
 body_at-requires g c = node_within c.args.cells.now 0 c.args.at c.requires
