@@ -118,9 +118,8 @@ pub fn weigh_tree<K: Kind>(
     }
 }
 
-// A tree is seen, and a node's parts and an item are read, by a body of any item and total: an arena has no kind to name.
-
-// The first level of a tree, as it is seen from a side.
+// The first level of a tree, as it is seen from a side. This body and the two below are of any item and total, so that they
+// serve lent cells of a kind, and an arena, which has no kind to name.
 fn view_of<I: Copy, T: Copy>(cells: &[Cell<I, T>], level: u32, side: Side, root: Root) -> View
     requires { Formed level (rooted cells.now level root) }
     ensures { Seen cells.now level (end side) root result }

@@ -1,5 +1,5 @@
 -- What a table of a few versions needs to be whole. Assumes nothing.
-use Rattle.std.proofs.Common.{◌≡◌, ℕ, zero, suc, true, List, [], ◌∷◌, Some, None, Option, refl, sym, ap, ◌∙◌, subst, arith}
+use Rattle.std.proofs.Common.{◌≡◌, ℕ, zero, suc, true, List, [], ◌∷◌, Some, None, Option, slice_index_or, refl, sym, ap, ◌∙◌, subst, arith}
 use Rattle.model.specs.Tree.{Node, leaf, two, three, gap, formed, count_node, count_run, count}
 use Rattle.model.specs.Forms.{FormedNode, Formed}
 use Rattle.model.specs.Forms.{Digit as Digits}
@@ -12,7 +12,8 @@ use Rattle.cells.specs.declared.cell.Root.{Root}
 use Rattle.cells.proofs.Frames.{keep_node, keep_tree}
 use Rattle.cells.proofs.Opened.{levels_read, tree_none}
 use Rattle.sweep.specs.declared.version.Version.{Version}
-use Rattle.sweep.specs.Kept.{KeptWhole}
+use Rattle.sweep.specs.Kept.{vacant, KeptWhole}
+use Rattle.sweep.specs.Swept.{Swept}
 
 module _ {I T : Type 0} where
   abbrev pub Reads : List (Cell I T) → Root → Type 0
@@ -32,6 +33,9 @@ module _ {I T : Type 0} where
 
   pub still : {h h' : List (Cell I T)} → Extends h h' → (r : Root) → Reads h r → Reads h' r
   still {h} u r w = ap (formed r.levels 0) (keep_tree u r.levels 0 r.at ((decides_formed r.levels 0 (rooted h 0 r)).0 w).1) ∙ w
+
+  pub still_kept : {h h' : List (Cell I T)} {table : List Version} → Swept h table h' → (v : ℕ) (r : Root) → slice_index_or table v vacant ≡ record { root = Some r } → Reads h r → Reads h' r
+  still_kept u v r e w = ap (formed r.levels 0) (u.reads v r (ap (λ (x : Version). x.root) e)) ∙ w
 
   pub whole_none : (h : List (Cell I T)) → KeptWhole h []
   whole_none h v r e = absurd (let z : ◌≡◌ {A = Option Root} None (Some r) = e in cc)

@@ -82,30 +82,39 @@ fn couple(rt: &impl Abort, arena: &mut Lent<'_>, first: u32, last: u32) -> u32
     make_node::<Targets>(arena.cells, &mut arena.free, 0, parts)
 }
 
-// The number of the nearest item of a node, as it is seen from a side.
-fn nearest_part(arena: &Lent<'_>, side: Side, at: u32) -> u16
+// The numbers of the first and the last item of a node: from each side the nearest.
+fn outer_parts(arena: &Lent<'_>, at: u32) -> (u16, u16)
     requires { FormedNode 1 (node arena.now 1 at) }
 {
-    let (nearest, _) = arena.parts(0, side, at).split_first();
-    arena.item(nearest).number
+    let (first, _) = arena.parts(0, Side::Front, at).split_first();
+    let (last, _) = arena.parts(0, Side::Back, at).split_first();
+    (arena.item(first).number, arena.item(last).number)
 }
 
 // The number of the nearest item of a version, as it is seen from a side; 0 where it has none.
 fn nearest(arena: &Lent<'_>, side: Side, root: Root) -> u16
     requires { formed root.levels 0 (rooted arena.now 0 root) ≡ true }
 {
-    match arena.view(0, side, root) {
-        View::Empty => 0,
-        View::Single { finger } => arena.item(finger).number,
+    let finger = match arena.view(0, side, root) {
+        View::Empty => return 0,
+        View::Single { finger } => finger,
         View::Deep {
             near,
             middle: _,
             far: _,
-        } => {
-            let (nearest, _) = near.split_first();
-            arena.item(nearest).number
-        }
-    }
+        } => near.split_first().0,
+    };
+    arena.item(finger).number
+}
+
+// The numbers of the first and the last item of a version.
+fn outer_items(arena: &Lent<'_>, root: Root) -> (u16, u16)
+    requires { formed root.levels 0 (rooted arena.now 0 root) ≡ true }
+{
+    (
+        nearest(arena, Side::Front, root),
+        nearest(arena, Side::Back, root),
+    )
 }
 
 #[test]
@@ -144,15 +153,12 @@ fn what_is_kept_is_seen_from_both_sides(rt: HostRuntime) -> Result<(), Fail> {
     let first = placed(&rt, &mut arena, 1);
     let last = placed(&rt, &mut arena, 2);
     let node = couple(&rt, &mut arena, first, last);
-    assert_eq!(rt; nearest_part(&arena, Side::Front, node), 1);
-    assert_eq!(rt; nearest_part(&arena, Side::Back, node), 2);
+    assert_eq!(rt; outer_parts(&arena, node), (1, 2));
     let one = single(&rt, &mut arena, last);
     let two = pair(&rt, &mut arena, first, last);
     sweep(&mut arena, &[kept(one), kept(two)]);
-    assert_eq!(rt; nearest(&arena, Side::Front, EMPTY), 0);
-    assert_eq!(rt; nearest(&arena, Side::Front, one), 2);
-    assert_eq!(rt; nearest(&arena, Side::Back, one), 2);
-    assert_eq!(rt; nearest(&arena, Side::Front, two), 1);
-    assert_eq!(rt; nearest(&arena, Side::Back, two), 2);
+    assert_eq!(rt; outer_items(&arena, EMPTY), (0, 0));
+    assert_eq!(rt; outer_items(&arena, one), (2, 2));
+    assert_eq!(rt; outer_items(&arena, two), (1, 2));
     Ok(())
 }

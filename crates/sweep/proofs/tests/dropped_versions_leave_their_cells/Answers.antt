@@ -1,8 +1,6 @@
-use Rattle.std.proofs.Common.{◌≡◌, [], ◌∷◌, None, Some, ap, ◌∙◌, arith}
-use Rattle.model.specs.Tree.{formed}
-use Rattle.sweep.specs.declared.version.Version.{Version}
+use Rattle.std.proofs.Common.{[], ◌∷◌, None, arith}
 use Rattle.cells.proofs.Opened.{node_within}
-use Rattle.sweep.proofs.Examples.{Reads, still_node, still, whole_none, whole_vacant, whole_kept}
+use Rattle.sweep.proofs.Examples.{still_node, still, still_kept, whole_none, whole_vacant, whole_kept}
 use Rattle.sweep.proofs.tests.dropped_versions_leave_their_cells.Goals as goal
 
 pub single-one-requires : goal.single-one-requires
@@ -29,8 +27,7 @@ sweep-requires-clause-whole g c =
 pub sweep-requires-2-clause-whole : goal.sweep-requires-2-clause-whole
 sweep-requires-2-clause-whole g c =
     let one = still c.single-dropped.ensures.grown c.single-one.result (still c.pair-two.ensures.grown c.single-one.result c.single-one.ensures.whole) in
-    let kept : c.kept.result.root ≡ Some c.single-one.result = ap (λ (v : Version). v.root) c.kept.ensures in
-    let after : Reads c.sweep.new.arena c.single-one.result = ap (formed c.single-one.result.levels 0) (c.sweep.ensures.reads 0 c.single-one.result kept) ∙ one in
+    let after = still_kept c.sweep.ensures 0 c.single-one.result c.kept.ensures one in
     whole_kept c.sweep.new.arena _ c.single-one.result [] c.kept-3.ensures after (whole_none c.sweep.new.arena)
 
 pub body-requires : goal.body-requires

@@ -1,9 +1,7 @@
-use Rattle.std.proofs.Common.{[], ◌∷◌, refl, sym, ap, ◌∙◌, subst}
-use Rattle.model.specs.Tree.{formed}
+use Rattle.std.proofs.Common.{[], ◌∷◌, refl, sym, subst}
 use Rattle.model.specs.Forms.{Formed}
 use Rattle.cells.proofs.Opened.{tree_none}
-use Rattle.sweep.specs.declared.version.Version.{Version}
-use Rattle.sweep.proofs.Examples.{reads_from, still_node, still, whole_none, whole_kept}
+use Rattle.sweep.proofs.Examples.{reads_from, still_node, still, still_kept, whole_none, whole_kept}
 use Rattle.sweep.proofs.tests.what_is_kept_is_seen_from_both_sides.Goals as goal
 
 pub couple-node-requires-clause-first : goal.couple-node-requires-clause-first
@@ -25,25 +23,14 @@ sweep-requires-clause-whole g c =
     let one = still c.pair-two.ensures.grown c.single-one.result c.single-one.ensures.whole in
     whole_kept h c.kept.result c.single-one.result (c.kept-2.result ∷ []) c.kept.ensures one (whole_kept h c.kept-2.result c.pair-two.result [] c.kept-2.ensures c.pair-two.ensures.whole (whole_none h))
 
-pub nearest-requires : goal.nearest-requires
-nearest-requires g c =
+pub outer_items-requires : goal.outer_items-requires
+outer_items-requires g c =
     let h = c.sweep.new.arena in
     reads_from h (record { levels = 0; at = 0 }) (subst (Formed 0) (sym (tree_none h 0 0 0 refl)) tt)
 
-pub nearest-requires-2 : goal.nearest-requires-2
-nearest-requires-2 g c =
-    let one = still c.pair-two.ensures.grown c.single-one.result c.single-one.ensures.whole in
-    ap (formed c.single-one.result.levels 0) (c.sweep.ensures.reads 0 c.single-one.result (ap (λ (v : Version). v.root) c.kept.ensures)) ∙ one
+pub outer_items-requires-2 : goal.outer_items-requires-2
+outer_items-requires-2 g c =
+    still_kept c.sweep.ensures 0 c.single-one.result c.kept.ensures (still c.pair-two.ensures.grown c.single-one.result c.single-one.ensures.whole)
 
-pub nearest-requires-3 : goal.nearest-requires-3
-nearest-requires-3 g c =
-    let one = still c.pair-two.ensures.grown c.single-one.result c.single-one.ensures.whole in
-    ap (formed c.single-one.result.levels 0) (c.sweep.ensures.reads 0 c.single-one.result (ap (λ (v : Version). v.root) c.kept.ensures)) ∙ one
-
-pub nearest-requires-4 : goal.nearest-requires-4
-nearest-requires-4 g c =
-    ap (formed c.pair-two.result.levels 0) (c.sweep.ensures.reads 1 c.pair-two.result (ap (λ (v : Version). v.root) c.kept-2.ensures)) ∙ c.pair-two.ensures.whole
-
-pub nearest-requires-5 : goal.nearest-requires-5
-nearest-requires-5 g c =
-    ap (formed c.pair-two.result.levels 0) (c.sweep.ensures.reads 1 c.pair-two.result (ap (λ (v : Version). v.root) c.kept-2.ensures)) ∙ c.pair-two.ensures.whole
+pub outer_items-requires-3 : goal.outer_items-requires-3
+outer_items-requires-3 g c = still_kept c.sweep.ensures 1 c.pair-two.result c.kept-2.ensures c.pair-two.ensures.whole
